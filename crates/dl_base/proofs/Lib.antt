@@ -1,0 +1,6 @@
+pub mod DerivationLemmas
+pub mod Examples
+pub mod BookLemmas
+pub mod RisingLemmas
+pub mod ExtendLemmas
+pub mod SetLemmas

@@ -1,0 +1,13 @@
+pub mod Name
+pub mod Book
+pub mod Ontology
+pub mod Axiom
+pub mod Rows
+pub mod Sets
+pub mod Derivation
+pub mod Unfolding
+pub mod Query
+pub mod Answers
+pub mod Clashes
+pub mod Replies
+pub mod Laws

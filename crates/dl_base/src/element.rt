@@ -1,0 +1,29 @@
+//! Elements of completed tables.
+use crate::Role;
+
+/// The one shared witness of a role, in one of its generations.
+#[derive(Clone, Copy, Debug, PartialEq, Eq, PartialOrd, Ord)]
+pub struct Witness {
+    /// The role by which the witness is reached.
+    pub role: Role,
+    /// How often the role has become live, this time included.
+    pub generation: u64,
+}
+
+/// An individual by its number, or a witness. Individuals come first.
+#[derive(Clone, Copy, Debug, PartialEq, Eq, PartialOrd, Ord)]
+pub enum Elem {
+    /// The individual of this number.
+    Named(u32),
+    /// A witness.
+    Shared(Witness),
+}
+
+/// The witness that a role had when something was computed, or none where it was not live.
+#[derive(Clone, Copy, Debug, PartialEq, Eq)]
+pub struct Stamp {
+    /// The role.
+    pub role: Role,
+    /// Its witness at that time.
+    pub witness: Option<Witness>,
+}
