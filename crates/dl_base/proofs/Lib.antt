@@ -3,4 +3,5 @@ pub mod Examples
 pub mod BookLemmas
 pub mod RisingLemmas
 pub mod ExtendLemmas
+pub mod RowLemmas
 pub mod SetLemmas

@@ -1,0 +1,137 @@
+-- Laws of rows: their order, and the strictly rising lists of what is asserted.
+use Rattle.std.proofs.Common.{◌≡◌, ℕ, zero, suc, ◌+◌, ◌<◌, ◌⊎◌, inl, inr, List, [], ◌∷◌, ◌++◌, length, Contains, refl, sym, ◌∙◌, ap, subst, arith, Bool, true, false}
+use Rattle.std.specs.Cmp.{IsTotalOrder}
+use Rattle.std.specs.Cmp.Lexicographic.{slice_cmp}
+use Rattle.std.specs.List.Sorted.{IsStrictlySortedBy}
+use Rattle.std.specs.declared.cmp.Ordering.{Ordering}
+use Rattle.std.specs.declared.cmp.Ordering.TheVariants.{Less, Equal, Greater}
+use Rattle.std.specs.Ordering.{ordering_then, nat_cmp, on, then_cmp}
+use Rattle.std.proofs.lemmas.Cmp.{nat_cmp_total, nat_list_cmp_total, lists_total, on_total, then_total}
+use Rattle.std.proofs.lemmas.List.Elements.{Contains-append_left, Contains-push}
+use Rattle.dl_base.specs.Ontology.{Terminology}
+use Rattle.dl_base.specs.Rows.{name_cmp, row_cmp, row_of, AreRowsOf, AreIndividuals, IsIndividual, Names, Held, HasRow, HasConceptRow}
+use Rattle.dl_base.specs.declared.concept.Basic.{Basic}
+use Rattle.dl_base.specs.declared.concept.Basic.TheVariants as basic
+use Rattle.dl_base.specs.declared.row.NamedRow.{NamedRow}
+use Rattle.dl_base.specs.declared.row.NamedRow.TheVariants as row
+use Rattle.dl_base.proofs.RisingLemmas.{nat_same, slice_same, same_rising, placed, placed_rises, placed_adds, length-placed, contains_cases, Adds}
+
+-- concept rows come first
+form_of : NamedRow → ℕ
+form_of (row.Concept c a) = 0
+form_of (row.Role p a b) = 1
+
+words_of : NamedRow → List (List ℕ)
+words_of (row.Concept c a) = c ∷ a ∷ []
+words_of (row.Role p a b) = p ∷ a ∷ b ∷ []
+
+then_equal : (r : Ordering) → ordering_then r Equal ≡ r
+then_equal Less = refl
+then_equal Equal = refl
+then_equal Greater = refl
+
+by_words : (x y : NamedRow) → then_cmp (on form_of nat_cmp) (on words_of (slice_cmp name_cmp)) x y ≡ row_cmp x y
+unfolding form_of words_of
+by_words (row.Concept c a) (row.Concept d b) = ap (ordering_then (name_cmp c d)) (then_equal (name_cmp a b))
+by_words (row.Concept c a) (row.Role q x y) = refl
+by_words (row.Role p a b) (row.Concept d x) = refl
+by_words (row.Role p a b) (row.Role q x y) = ap (λ (r : Ordering). ordering_then (name_cmp p q) (ordering_then (name_cmp a x) r)) (then_equal (name_cmp b y))
+
+total_as : {X : Type 0} (R S : X → X → Ordering) → ((x y : X) → R x y ≡ S x y) → IsTotalOrder R → IsTotalOrder S
+total_as R S is t = record {
+  antisymm = λ x y. rw (← is x y, ← is y x) (t.antisymm x y);
+  trans = λ x y z e f. sym (is x z) ∙ t.trans x y z (is x y ∙ e) (is y z ∙ f);
+  congr = λ x y z e. sym (is x z) ∙ (t.congr x y z (is x y ∙ e) ∙ is y z);
+}
+
+-- names are ordered, and so are rows
+pub name_total : IsTotalOrder name_cmp
+name_total = nat_list_cmp_total
+
+pub name_same : (a b : List ℕ) → name_cmp a b ≡ Equal → a ≡ b
+name_same = slice_same nat_cmp nat_same
+
+pub row_total : IsTotalOrder row_cmp
+row_total = total_as (then_cmp (on form_of nat_cmp) (on words_of (slice_cmp name_cmp))) row_cmp by_words
+    (then_total (on_total form_of nat_cmp_total) (on_total words_of (lists_total nat_list_cmp_total)))
+
+then_first : (r s : Ordering) → ordering_then r s ≡ Equal → r ≡ Equal
+then_first Less s e = e
+then_first Equal s e = refl
+then_first Greater s e = e
+
+then_second : (r s : Ordering) → ordering_then r s ≡ Equal → s ≡ Equal
+then_second Less s e = absurd cc
+then_second Equal s e = e
+then_second Greater s e = absurd cc
+
+pub row_same : (x y : NamedRow) → row_cmp x y ≡ Equal → x ≡ y
+row_same (row.Concept c a) (row.Concept d b) e =
+    let f = name_same c d (then_first _ _ e) in
+    let g = name_same a b (then_second (name_cmp c d) _ e) in
+    λ j. row.Concept (f j) (g j)
+row_same (row.Concept c a) (row.Role q x y) e = absurd cc
+row_same (row.Role p a b) (row.Concept d x) e = absurd cc
+row_same (row.Role p a b) (row.Role q x y) e =
+    let rest = then_second (name_cmp p q) _ e in
+    let f = name_same p q (then_first _ _ e) in
+    let g = name_same a x (then_first _ _ rest) in
+    let h = name_same b y (then_second (name_cmp a x) _ rest) in
+    λ j. row.Role (f j) (g j) (h j)
+
+-- the rows of what is asserted are one list
+pub rows_once : (asserted xs ys : List NamedRow) → AreRowsOf asserted xs → AreRowsOf asserted ys → xs ≡ ys
+rows_once asserted xs ys a b = same_rising row_cmp row_total row_same xs ys a.rising b.rising (λ r c. b.each r (a.only r c)) (λ r c. a.each r (b.only r c))
+
+pub individuals_once : (rows : List NamedRow) (xs ys : List (List ℕ)) → AreIndividuals rows xs → AreIndividuals rows ys → xs ≡ ys
+individuals_once rows xs ys a b = same_rising name_cmp name_total name_same xs ys a.rising b.rising (λ n c. b.each n (a.only n c)) (λ n c. a.each n (b.only n c))
+
+contains_cut : {X : Type 0} (xs : List X) (x z : X) → Contains (xs ++ x ∷ []) z → (z ≡ x) ⊎ Contains xs z
+contains_cut [] x z c = elim (contains_cases x [] z c) [ inl e ↦ inl e | inr d ↦ inr d ]
+contains_cut (y ∷ ys) x z c = elim (contains_cases y (ys ++ x ∷ []) z c) [
+  | inl e ↦ inr (0, omega arith, sym e)
+  | inr d ↦ elim (contains_cut ys x z d) [ inl e ↦ inl e | inr f ↦ inr (suc f.0, omega (arith, f.1), f.2) ]
+]
+
+pub none_rising : {X : Type 0} (cmp : X → X → Ordering) → IsStrictlySortedBy cmp []
+unfolding IsStrictlySortedBy
+none_rising cmp = tt
+
+-- no rows, where nothing is asserted
+pub rows_none : AreRowsOf [] []
+rows_none = record { rising = none_rising row_cmp; only = λ r c. c; each = λ r c. c }
+
+-- the rows with one more
+pub rows_more : (asserted rows : List NamedRow) (r : NamedRow) → AreRowsOf asserted rows → AreRowsOf (asserted ++ r ∷ []) (placed row_cmp row_total row_same r rows)
+rows_more asserted rows r are =
+    let adds = placed_adds row_cmp row_total row_same r rows in
+    record {
+      rising = placed_rises row_cmp row_total row_same r rows are.rising;
+      only = λ x c. elim (adds.each x c) [
+        | inl e ↦ subst (Contains (asserted ++ r ∷ [])) (sym e) (Contains-push asserted r)
+        | inr d ↦ Contains-append_left asserted (r ∷ []) x (are.only x d)
+      ];
+      each = λ x c. elim (contains_cut asserted r x c) [
+        | inl e ↦ subst (Contains (placed row_cmp row_total row_same r rows)) (sym e) adds.there
+        | inr d ↦ adds.stays x (are.each x d)
+      ];
+    }
+
+-- a row that was there already
+pub rows_again : (asserted rows : List NamedRow) (r : NamedRow) → AreRowsOf asserted rows → Contains asserted r → AreRowsOf (asserted ++ r ∷ []) rows
+rows_again asserted rows r are there = record {
+  rising = are.rising;
+  only = λ x c. Contains-append_left asserted (r ∷ []) x (are.only x c);
+  each = λ x c. elim (contains_cut asserted r x c) [
+    | inl e ↦ are.each x (subst (Contains asserted) (sym e) there)
+    | inr d ↦ are.each x d
+  ];
+}
+
+-- what the same rows say is the same
+pub held_through : (o : Terminology) (few many : List NamedRow) → ((r : NamedRow) → Contains few r → Contains many r) → (a : List ℕ) (b : Basic) → Held o few a b → Held o many a b
+held_through o few many into a (basic.Concept c) h = record { name = h.name; named = h.named; there = into (row.Concept h.name a) h.there }
+held_through o few many into a (basic.Exists r) (b, h) = (b, record { name = h.name; named = h.named; there = into (row_of h.name r.inverse a b) h.there })
+
+pub individual_through : (few many : List NamedRow) → ((r : NamedRow) → Contains few r → Contains many r) → (a : List ℕ) → IsIndividual few a → IsIndividual many a
+individual_through few many into a (r, there, names) = (r, into r there, names)
