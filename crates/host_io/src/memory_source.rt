@@ -94,7 +94,6 @@ impl Source for MemSource {
         ensures end { IfOk result (λ count. count ≡ 0 → AtEnd (Some self.old.left)) }
         ensures failed { OnErr result (Some self.new.left ≡ Some self.old.left) }
         ensures cause { HasCause self.old.read_faults self.new.read_faults result }
-
         ensures full { IfOk result (λ count. count ≡ min (length buf.old) (length self.old.left)) }
 
         // The listed calls fail, and no other.
