@@ -1,6 +1,6 @@
 -- What several reads take.
-use Rattle.std.proofs.Common.{◌≡◌, ◌<◌, ◌≤◌, ◌-◌, ℕ, List, [], ◌++◌, length, drop, min, Option, Some, refl, sym, ◌∙◌, ap, append_assoc, arith}
-use Rattle.std.proofs.lemmas.List.{append-nil, drop_all}
+use Rattle.std.proofs.Common.{◌≡◌, ◌<◌, ℕ, List, [], ◌++◌, length, take, drop, take-append-drop, min, Option, Some, refl, sym, ◌∙◌, ap, append_assoc, arith}
+use Rattle.std.proofs.lemmas.List.{append-nil, nil_from_length}
 use Rattle.host_io.specs.Source.{Takes, AtEnd}
 
 -- before the first read nothing is taken
@@ -23,8 +23,17 @@ takes_all old new input bytes takes end is =
     let after = takes.told input is in
     after.2 ∙ ap (λ (xs : List ℕ). bytes ++ xs) (end after.0 after.1) ∙ append-nil bytes
 
+-- a read of a front
+pub takes_front : (count : ℕ) (left buf : List ℕ) → take count buf ≡ take count left → Takes (Some left) (Some (drop count left)) (take count buf)
+takes_front count left buf same = record {
+  told = λ before is.
+      let whole : left ≡ before = cc in
+      (drop count left, refl, sym whole ∙ sym (take-append-drop count left) ∙ ap (λ (xs : List ℕ). xs ++ drop count left) (sym same));
+  untold = λ is. absurd (cc);
+}
+
 -- a read that takes nothing into a buffer with room leaves nothing
-pub none_left : (room taken : ℕ) (bytes : List ℕ) → 0 < room → min room (length bytes - taken) ≡ 0 → AtEnd (Some (drop taken bytes))
-none_left room taken bytes some none rest is =
-    let gone : drop taken bytes ≡ [] = drop_all taken bytes (omega arith) in
+pub none_left : (room : ℕ) (left : List ℕ) → 0 < room → min room (length left) ≡ 0 → AtEnd (Some left)
+none_left room left some none rest is =
+    let gone : left ≡ [] = nil_from_length left (omega arith) in
     cc

@@ -8,8 +8,9 @@ pub record SourceState : Type 0 where
   pub calls : ℕ
   pub read_faults : ℕ
 
--- a source over a reader of std: how often it has failed
-pub record SourceCount : Type 0 where
+-- a source over a reader of std: the reader, and how often it has failed
+pub record ReaderState (R : Type 0) : Type 0 where
+  pub reader : R
   pub read_faults : ℕ
 
 -- a host in memory: what was printed, the numbers of the calls that fail, and the counts

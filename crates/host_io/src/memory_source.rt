@@ -7,25 +7,35 @@ use crate::counts::{is_listed, raised};
 use crate::{Bytes, Calls, Failed, Source};
 use std::marker::Model;
 
-// Bytes, of which some at the front were taken.
+// Bytes, of which some at the front were taken. Contracts see the bytes that are left.
 #[derive(Debug, Drop)]
 struct Rest {
     bytes: Bytes,
     taken: usize,
-    ghost within: { taken ≤ length bytes },
+}
+
+impl Model for Rest {
+    ghost use Rattle.std.specs.Prelude.{◌≤◌, List, ℕ, drop, length};
+
+    ghost Value = { List ℕ };
+
+    ghost view = { λ rest. drop rest.taken rest.bytes };
+
+    ghost invariant = { λ rest. rest.taken ≤ length rest.bytes };
 }
 
 impl Rest {
+    fn new(bytes: Bytes) -> Self
+        ensures { result ≡ bytes }
+    {
+        Rest { bytes, taken: 0 }
+    }
+
     // Takes as many bytes as are left and go into the buffer.
-    #[tactic(auto, using(crate::proofs::SourceLemmas::none_left))]
     fn take_into(&mut self, buf: &mut [u8]) -> usize
-        requires { 0 < length buf.old }
-        ensures within { result ≤ length buf.new }
-        ensures end { result ≡ 0 → AtEnd (Some (drop self.old.taken self.old.bytes)) }
-        ensures bytes { self.new.bytes ≡ self.old.bytes }
-        ensures count { result ≡ min (length buf.old) (length self.old.bytes - self.old.taken) }
-        ensures taken { self.new.taken ≡ self.old.taken + result }
-        ensures read { take result buf.new ≡ take result (drop self.old.taken self.old.bytes) }
+        ensures count { result ≡ min (length buf.old) (length self.old) }
+        ensures read { take result buf.new ≡ take result self.old }
+        ensures rest { self.new ≡ drop result self.old }
     {
         let left = &self.bytes.items()[self.taken..];
         let count = left.len().min(buf.len());
@@ -46,12 +56,11 @@ pub struct MemSource {
 }
 
 impl Model for MemSource {
-    ghost use Rattle.std.specs.Prelude.{drop};
     ghost use Rattle.host_io.specs.Memory.{SourceState};
 
     ghost Value = { SourceState };
 
-    ghost view = { λ source. record { left = drop source.rest.taken source.rest.bytes; fails = source.fails; calls = source.calls; read_faults = source.read_faults } };
+    ghost view = { λ source. record { left = source.rest; fails = source.fails; calls = source.calls; read_faults = source.read_faults } };
 }
 
 impl MemSource {
@@ -63,7 +72,7 @@ impl MemSource {
         ensures read_faults { result.read_faults ≡ 0 }
     {
         MemSource {
-            rest: Rest { bytes, taken: 0 },
+            rest: Rest::new(bytes),
             fails,
             calls: 0,
             read_faults: 0,
@@ -77,12 +86,15 @@ impl Source for MemSource {
     ghost read_faults = { λ source. source.read_faults };
 
     /// Takes as many bytes as are left and go into the buffer.
+    #[tactic(auto, using(crate::proofs::SourceLemmas::takes_front, crate::proofs::SourceLemmas::none_left))]
     fn read(&mut self, buf: &mut [u8]) -> Result<usize, Failed>
+        requires { 0 < length buf.old }
         ensures within { IfOk result (λ count. count ≤ length buf.new) }
         ensures taken { IfOk result (λ count. Takes (Some self.old.left) (Some self.new.left) (take count buf.new)) }
         ensures end { IfOk result (λ count. count ≡ 0 → AtEnd (Some self.old.left)) }
         ensures failed { OnErr result (Some self.new.left ≡ Some self.old.left) }
         ensures cause { HasCause self.old.read_faults self.new.read_faults result }
+        ensures full { IfOk result (λ count. count ≡ min (length buf.old) (length self.old.left)) }
 
         // The listed calls fail, and no other.
         ensures listed { IsErr result ↔ IsListed self.old.fails self.old.calls }
@@ -107,11 +119,11 @@ pub struct EvenSource {
 }
 
 impl Model for EvenSource {
-    ghost use Rattle.std.specs.Prelude.{List, ℕ, drop};
+    ghost use Rattle.std.specs.Prelude.{List, ℕ};
 
     ghost Value = { List ℕ };
 
-    ghost view = { λ source. drop source.rest.taken source.rest.bytes };
+    ghost view = { λ source. source.rest };
 }
 
 impl EvenSource {
@@ -120,7 +132,7 @@ impl EvenSource {
         ensures { result ≡ bytes }
     {
         EvenSource {
-            rest: Rest { bytes, taken: 0 },
+            rest: Rest::new(bytes),
         }
     }
 }
@@ -131,12 +143,15 @@ impl Source for EvenSource {
     ghost read_faults = { λ _. 0 };
 
     /// Takes as many bytes as are left and go into the buffer.
+    #[tactic(auto, using(crate::proofs::SourceLemmas::takes_front, crate::proofs::SourceLemmas::none_left))]
     fn read(&mut self, buf: &mut [u8]) -> Result<usize, Failed>
+        requires { 0 < length buf.old }
         ensures within { IfOk result (λ count. count ≤ length buf.new) }
         ensures taken { IfOk result (λ count. Takes (Some self.old) (Some self.new) (take count buf.new)) }
         ensures end { IfOk result (λ count. count ≡ 0 → AtEnd (Some self.old)) }
         ensures failed { OnErr result (Some self.new ≡ Some self.old) }
         ensures cause { HasCause 0 0 result }
+        ensures full { IfOk result (λ count. count ≡ min (length buf.old) (length self.old)) }
         ensures never { IsOk result }
     {
         Ok(self.rest.take_into(buf))

@@ -1,5 +1,6 @@
 // What a program reads.
 ghost use Rattle.std.specs.Prelude.{◌≡◌, ◌<◌, ◌≤◌, List, ℕ, Option, length, take, IfOk, OnErr, is_ok, if◌then◌else◌};
+ghost use Rattle.std.specs.Io.KnownBytes.{ReadConsumes};
 ghost use Rattle.host_io.specs.Causes.{HasCause, raised};
 ghost use Rattle.host_io.specs.Source.{Takes, AtEnd, untold};
 
@@ -27,7 +28,7 @@ pub trait Source {
         ensures cause { HasCause (read_faults self.old) (read_faults self.new) result };
 }
 
-/// A source over a reader of std. It tells no bytes. Contracts see its count of failed reads.
+/// A source over a reader of std. It tells no bytes. Contracts see the reader and the count of failed reads.
 #[derive(Drop)]
 pub struct StdSource<R> {
     reader: R,
@@ -35,17 +36,18 @@ pub struct StdSource<R> {
 }
 
 impl<R> Model for StdSource<R> {
-    ghost use Rattle.host_io.specs.Memory.{SourceCount};
+    ghost use Rattle.host_io.specs.Memory.{ReaderState};
 
-    ghost Value = { SourceCount };
+    ghost Value = { ReaderState R };
 
-    ghost view = { λ source. record { read_faults = source.read_faults } };
+    ghost view = { λ source. record { reader = source.reader; read_faults = source.read_faults } };
 }
 
 impl<R> StdSource<R> {
     /// A source that gives what the reader gives. It reads nothing yet.
     pub fn new(reader: R) -> Self
-        ensures { result.read_faults ≡ 0 }
+        ensures reader { result.reader ≡ reader }
+        ensures read_faults { result.read_faults ≡ 0 }
     {
         StdSource {
             reader,
@@ -66,6 +68,9 @@ impl<R: Read> Source for StdSource<R> {
         ensures end { IfOk result (λ count. count ≡ 0 → AtEnd untold) }
         ensures failed { OnErr result (untold ≡ untold) }
         ensures cause { HasCause self.old.read_faults self.new.read_faults result }
+
+        // Where the reader tells what it will give, these bytes were read.
+        ensures reader { ReadConsumes (R.remaining self.old.reader) (R.remaining self.new.reader) result buf.new }
 
         // The count rises at each failure, and only there.
         ensures count { self.new.read_faults ≡ (if is_ok result then self.old.read_faults else raised self.old.read_faults) }

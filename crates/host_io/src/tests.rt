@@ -1,7 +1,9 @@
 // Each source and host through its public calls.
 use super::*;
-use std::io::Cursor;
+use std::cell::Cell;
+use std::io::{Cursor, ErrorKind, Read};
 use std::test::Fail;
+use std::{fmt, io};
 
 #[test]
 fn a_listed_read_fails_and_takes_nothing(rt: HostRuntime) -> Result<(), Fail> {
@@ -44,6 +46,33 @@ fn a_reader_of_std_is_a_source(rt: HostRuntime) {
     assert_eq!(rt; source.read(&mut buf), Ok(0));
 }
 
+// A reader of which each second read fails.
+#[derive(Drop)]
+struct Faulty {
+    fails: bool,
+}
+
+impl Read for Faulty {
+    fn read(&mut self, buf: &mut [u8]) -> io::Result<usize> {
+        self.fails = !self.fails;
+        if self.fails {
+            return Err(io::Error::from(ErrorKind::Interrupted));
+        }
+        buf.fill(b'a');
+        Ok(buf.len())
+    }
+}
+
+#[test]
+fn a_failed_read_of_a_reader_is_a_failure(rt: HostRuntime) {
+    let mut source = StdSource::new(Faulty { fails: false });
+    let mut buf = [0u8; 2];
+    assert_eq!(rt; source.read(&mut buf), Err(Failed));
+    assert_eq!(rt; source.read(&mut buf), Ok(2));
+    assert_eq!(rt; buf.as_slice(), b"aa".as_slice());
+    assert_eq!(rt; source.read(&mut buf), Err(Failed));
+}
+
 #[test]
 fn a_listed_print_fails_and_prints_nothing(rt: HostRuntime) -> Result<(), Fail> {
     let alloc = rt.alloc();
@@ -67,8 +96,46 @@ fn an_even_host_keeps_what_is_printed(rt: HostRuntime) {
     assert_eq!(rt; host.lacked(), 0);
 }
 
+// An output that takes so many bytes and refuses what is more.
+#[derive(Drop)]
+struct Output {
+    room: Cell<usize>,
+}
+
+impl Print for Output {
+    fn print<D: fmt::Display + Drop>(&self, _value: D) -> io::Result<()> {
+        Err(io::Error::from(ErrorKind::Unsupported))
+    }
+
+    fn println<D: fmt::Display + Drop>(&self, _value: D) -> io::Result<()> {
+        Err(io::Error::from(ErrorKind::Unsupported))
+    }
+
+    fn write_all(&self, bytes: &[u8]) -> io::Result<()> {
+        match self.room.get().checked_sub(bytes.len()) {
+            Some(room) => {
+                self.room.set(room);
+                Ok(())
+            }
+            None => Err(io::Error::from(ErrorKind::StorageFull)),
+        }
+    }
+}
+
 #[test]
-fn a_folder_host_prints(rt: HostRuntime) {
+fn a_folder_host_prints_until_the_output_refuses(rt: HostRuntime) {
+    let output = Output { room: Cell::new(5) };
+    let mut host = FolderHost::new(&output);
+    assert_eq!(rt; host.print(b"end "), Ok(()));
+    assert_eq!(rt; output.room.get(), 1);
+    assert_eq!(rt; host.print(b"1\n"), Err(Failed));
+    assert_eq!(rt; output.room.get(), 1);
+    assert_eq!(rt; host.print(b"\n"), Ok(()));
+    assert_eq!(rt; output.room.get(), 0);
+}
+
+#[test]
+fn a_folder_host_prints_on_standard_output(rt: HostRuntime) {
     let mut host = FolderHost::new(&rt);
     assert_eq!(rt; host.print(b"printed by a test\n"), Ok(()));
 }
