@@ -1,3 +1,5 @@
+pub mod NameRules
+pub mod Words
 pub mod DerivationLemmas
 pub mod Examples
 pub mod BookLemmas

@@ -1,4 +1,6 @@
-pub mod Name
+pub mod Names
+pub mod NameReading
+pub mod NameFault
 pub mod Book
 pub mod Ontology
 pub mod Axiom

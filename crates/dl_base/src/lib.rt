@@ -8,6 +8,7 @@ mod concept;
 mod element;
 pub mod laws;
 mod name;
+mod name_readers;
 mod ontology;
 mod query;
 mod row;
@@ -19,8 +20,12 @@ pub use clash::{Clash, Path, RolePath};
 pub use concept::{Basic, Body, Head, Inclusion, Role};
 pub use element::{Elem, Stamp, Witness};
 pub use name::{Name, NameError};
+pub use name_readers::{is_reserved, read_angled, read_name, read_variable, read_word};
 pub use ontology::{ExtendError, Ontology, Which};
 pub use plain_list::Items;
 pub use query::{Atom, Atoms, Key, Keys, Query, Term, Vars};
 pub use row::{Change, Changes, NamedChange, NamedRow, NamedRows, Row, RowList};
 pub use sets::{BasicSet, PLACES, RoleSet, place};
+
+#[cfg(test)]
+mod name_tests;

@@ -1,17 +1,23 @@
 //! Names.
-ghost use Rattle.std.specs.Prelude.{◌≡◌, ◌≢◌, ◌↔◌, ◌⊎◌, IfOk, IsTrue, IsFalse, codes};
-ghost use Rattle.dl_base.specs.Name.{IsName, IsBare, IsAngled, IsFirst, IsLater, IsInner, Parses};
-ghost use Rattle.std.specs.Prelude.{refl, nat_eq};
+
+ghost use Rattle.std.specs.Prelude.{◌≡◌, IfOk, IfErr, ◌≤◌, false, length, refl};
 ghost use Rattle.std.specs.Str.{bytes_eq};
 ghost use Rattle.std.specs.Cmp.{partial_equiv_from_equiv};
 ghost use Rattle.std.specs.Cmp.Lexicographic.{slice_cmp, nat_list_cmp_total, nat_list_eq_equiv, texts_ties, texts_po};
 ghost use Rattle.std.specs.Ordering.{nat_cmp, as_partial_cmp};
+ghost use Rattle.grammar.specs.Reading.{Gives, whole};
+ghost use Rattle.dl_base.specs.Names.{IsName, IsWord};
+ghost use Rattle.dl_base.specs.NameReading.{name_at, is_reserved};
+ghost use Rattle.dl_base.specs.NameFault.{IsNameFault};
 
+use crate::name_readers::read_name;
+use grammar::ReadError;
 use std::alloc::{AllocError, Global};
 use std::cmp::Ordering;
 use std::marker::Model;
 
-/// A name, seen as its bytes.
+/// A name of a concept, a role, an individual or a variable: its bytes, the brackets of an angled name included.
+/// Names are ordered by their bytes.
 #[derive(Debug, Drop)]
 pub struct Name {
     bytes: Vec<u8>,
@@ -19,7 +25,7 @@ pub struct Name {
 
 impl Model for Name {
     ghost use Rattle.std.specs.Prelude.{List, ℕ};
-    ghost use Rattle.dl_base.specs.Name.{IsName};
+    ghost use Rattle.dl_base.specs.Names.{IsName};
 
     ghost Value = { List ℕ };
 
@@ -31,30 +37,54 @@ impl Model for Name {
 /// Why bytes are no name.
 #[derive(Debug, Drop)]
 pub enum NameError {
+    /// No name has the bytes up to this place, counted from 0, as its first ones; the number of bytes, where the
+    /// bytes are the first ones of a longer name.
     Bad(u64),
+    /// Memory ran out.
     NoMemory,
 }
 
 impl Name {
     /// The name with these bytes.
     pub fn new(alloc: Global, bytes: &[u8]) -> Result<Name, NameError>
-        ensures { Parses bytes.now result }
+        ensures found { IfOk result (λ n. (n ≡ bytes.now) × IsName bytes.now) }
+        ensures fault { IfErr result (λ e. IsNameFault bytes.now e) }
     {
-        if !is_name(bytes) {
-            return Err(NameError::Bad(0));
-        }
-        match Vec::from_slice(alloc, bytes) {
-            Ok(bytes) => Ok(Name { bytes }),
-            Err(_) => Err(NameError::NoMemory),
+        match whole_name(alloc, bytes) {
+            Ok(name) => Ok(name),
+            Err(ReadError::Fault(left)) => Err(NameError::Bad((bytes.len() - left) as u64)),
+            Err(ReadError::Memory) => Err(NameError::NoMemory),
         }
     }
 
+    /// The name that this word is. It is no reserved word.
+    pub fn from_word(alloc: Global, word: &[u8]) -> Result<Name, AllocError>
+        requires word { IsWord word.now }
+        requires short { length word.now ≤ 255 }
+        requires free { is_reserved word.now ≡ false }
+        ensures { IfOk result (λ n. n ≡ word.now) }
+    {
+        let bytes = Vec::from_slice(alloc, word)?;
+        Ok(Name { bytes })
+    }
+
+    /// The name with these bytes.
+    pub(crate) fn from_vec(bytes: Vec<u8>) -> Name
+        requires { IsName bytes.items }
+        ensures { result ≡ bytes.items }
+    {
+        Name { bytes }
+    }
+
+    /// The name's bytes.
     pub fn bytes(&self) -> &[u8]
-        ensures { result.now ≡ self.now }
+        ensures bytes { result.now ≡ self.now }
+        ensures name { IsName self.now }
     {
         self.bytes.as_slice()
     }
 
+    /// The same name once more.
     pub fn copy(&self, alloc: Global) -> Result<Name, AllocError>
         ensures { IfOk result (λ n. n ≡ self.now) }
     {
@@ -63,56 +93,14 @@ impl Name {
     }
 }
 
-fn is_name(bytes: &[u8]) -> bool
-    ensures { IsTrue result ↔ IsName bytes.now }
+fn whole_name(alloc: Global, text: &[u8]) -> Result<Name, ReadError>
+    ensures { Gives (λ n. n) result (whole (name_at text.now)) }
 {
-    bytes.len() <= 255 && (is_bare(bytes) || is_angled(bytes))
-}
-
-fn is_bare(bytes: &[u8]) -> bool
-    ensures { IsTrue result ↔ IsBare bytes.now }
-{
-    !bytes.is_empty()
-        && is_first(bytes[0])
-        && bytes.iter().all(|b| is_later(*b))
-        && !is_reserved(bytes)
-}
-
-fn is_reserved(bytes: &[u8]) -> bool
-    ensures yes { IsTrue result → (bytes.now ≡ codes "nothing") ⊎ (bytes.now ≡ codes "And") ⊎ (bytes.now ≡ codes "Some") ⊎ (bytes.now ≡ codes "Inv") }
-    ensures no { IsFalse result → (bytes.now ≢ codes "nothing") × (bytes.now ≢ codes "And") × (bytes.now ≢ codes "Some") × (bytes.now ≢ codes "Inv") }
-{
-    bytes == b"nothing".as_slice()
-        || bytes == b"And".as_slice()
-        || bytes == b"Some".as_slice()
-        || bytes == b"Inv".as_slice()
-}
-
-fn is_angled(bytes: &[u8]) -> bool
-    ensures { IsTrue result ↔ IsAngled bytes.now }
-{
-    bytes.len() >= 3
-        && bytes[0] == b'<'
-        && bytes[bytes.len() - 1] == b'>'
-        && bytes[1..bytes.len() - 1].iter().all(|b| is_inner(*b))
-}
-
-fn is_first(b: u8) -> bool
-    ensures { IsTrue result ↔ IsFirst b }
-{
-    b.is_ascii_alphabetic() || b == b'_'
-}
-
-fn is_later(b: u8) -> bool
-    ensures { IsTrue result ↔ IsLater b }
-{
-    is_first(b) || b.is_ascii_digit() || b == b'-' || b == b'.'
-}
-
-fn is_inner(b: u8) -> bool
-    ensures { IsTrue result ↔ IsInner b }
-{
-    b > 32 && b != 127 && b != b'<' && b != b'>' && b != b'"'
+    let (name, rest) = read_name(alloc, text)?;
+    if !rest.is_empty() {
+        return Err(ReadError::Fault(rest.len()));
+    }
+    Ok(name)
 }
 
 impl PartialEq for Name {
