@@ -1,0 +1,5 @@
+pub mod Status
+pub mod Lines
+pub mod Feeding
+pub mod Forms
+pub mod FormReading
