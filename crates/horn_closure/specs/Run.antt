@@ -1,5 +1,5 @@
 -- What holds while a closure is computed.
-use Rattle.std.specs.Prelude.{◌≡◌, ℕ, zero, suc, ◌+◌, ◌-◌, ◌*◌, ◌/◌, ◌%◌, ◌<◌, ◌≤◌, ◌⊎◌, ◌↔◌, ◌==◌, List, [], ◌∷◌, ◌++◌, All, length, slice_get, Option, Some, None, slice_index, slice_index_or, if◌then◌else◌}
+use Rattle.std.specs.Prelude.{◌≡◌, ℕ, zero, suc, ◌+◌, ◌-◌, ◌/◌, ◌%◌, ◌<◌, ◌≤◌, ◌⊎◌, ◌↔◌, ◌==◌, List, [], ◌∷◌, ◌++◌, All, length, slice_get, Option, Some, None, slice_index, slice_index_or, if◌then◌else◌}
 use Rattle.std.specs.Int.{bit_at}
 use Rattle.dl_base.specs.Derivation.{Derives}
 use Rattle.dl_base.specs.Ontology.{IsWithin}
@@ -17,7 +17,7 @@ count i (k ∷ ks) = (if k == i then 1 else 0) + count i ks
 -- how many of the basic concepts have this place
 abbrev pub times : ℕ → List Basic → ℕ
 times p [] = 0
-times p (b ∷ bs) = (if place_of b == p then 1 else 0) + times p bs
+times p (b ∷ bs) = (if p == place_of b then 1 else 0) + times p bs
 
 -- how many of the basic concepts have a place that is not in the list
 abbrev pub waiting : List ℕ → List Basic → ℕ
@@ -50,9 +50,10 @@ abbrev pub uses_at : ℕ → List (List ℕ) → List ℕ → ℕ
 uses_at i uses [] = 0
 uses_at i uses (p ∷ ps) = count i (slice_index_or uses p []) + uses_at i uses ps
 
--- the queue has the place of each bit that is set once, and no other
+-- of the places of basic concepts, the queue has each whose bit is set once, and no other
 pub record IsQueueOf (words queue : List ℕ) : Type 0 where
-  pub each : (p : ℕ) → count p queue ≡ bit words p
+  pub inside : All (λ p. p < 1024) queue
+  pub each : (p : ℕ) → p < 1024 → count p queue ≡ bit words p
 
 -- inclusion k, counted from 1, has the head nothing, and none of its members is left
 pub record IsSpent (inclusions : List Inclusion) (left : List ℕ) (k : ℕ) : Type 0 where

@@ -1,5 +1,5 @@
 //! The places of basic concepts that a closure has marked, in the order of marking.
-ghost use Rattle.std.specs.Prelude.{◌≡◌, ◌<◌, ◌≤◌, ◌∷◌, ◌++◌, [], ℕ, All, length, slice_index};
+ghost use Rattle.std.specs.Prelude.{◌≡◌, ◌<◌, ◌≤◌, ◌∷◌, ◌++◌, [], length};
 
 use dl_base::PLACES;
 use std::marker::Model;
@@ -12,13 +12,13 @@ pub(crate) struct Queue {
 }
 
 impl Model for Queue {
-    ghost use Rattle.std.specs.Prelude.{ℕ, List, ◌<◌, ◌≤◌, All, take};
+    ghost use Rattle.std.specs.Prelude.{ℕ, List, ◌≤◌, take};
 
     ghost Value = { List ℕ };
 
     ghost view = { λ q. take q.many q.places };
 
-    ghost invariant = { λ q. (q.many ≤ 1024) × All (λ p. p < 1024) (take q.many q.places) };
+    ghost invariant = { λ q. q.many ≤ 1024 };
 }
 
 impl Queue {
@@ -43,18 +43,15 @@ impl Queue {
     pub(crate) fn len(&self) -> usize
         ensures length { result ≡ length self.now }
         ensures most { result ≤ 1024 }
-        ensures within { All (λ p. p < 1024) self.now }
     {
         self.many
     }
 
-    /// The place that was added after so many others.
-    pub(crate) fn at(&self, k: usize) -> usize
-        requires { k < length self.now }
-        ensures place { result ≡ slice_index self.now k }
-        ensures within { result < 1024 }
+    /// The places, in order.
+    pub(crate) fn places(&self) -> &[u16]
+        ensures { result.now ≡ self.now }
     {
-        self.places[k] as usize
+        &self.places[..self.many]
     }
 
     /// Adds a place at the end.

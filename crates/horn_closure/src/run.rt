@@ -75,20 +75,14 @@ fn visit(
     ensures run { IsRun inclusions.now [] (take (head + 1) queue.new) queue.new found.new left.new }
     ensures advances { Advances inclusions.now found.old.derived queue.old found.new.derived queue.new }
 {
-    let place = queue.at(head);
+    let place = queue.places()[head] as usize;
     for i in uses[place].items() {
         settle(inclusions, *i, left, queue, found);
     }
 }
 
 /// Of inclusion i, counted from 0, one member fewer is left. Where that was the last, the head is found.
-fn settle(
-    inclusions: &[Inclusion],
-    i: u32,
-    left: &mut [u32],
-    queue: &mut Queue,
-    found: &mut Found,
-)
+fn settle(inclusions: &[Inclusion], i: u32, left: &mut [u32], queue: &mut Queue, found: &mut Found)
     requires few { length inclusions.now ≤ 4096 }
     requires within { All (IsWithin 512 256) inclusions.now }
     requires inside { i < length inclusions.now }
@@ -133,13 +127,13 @@ fn least(known: Option<u32>, number: u32) -> u32
 
 /// Hands back each use of the places of the queue.
 fn give_back_all(uses: &[Items<u32>], left: &mut [u32], queue: &Queue)
-    requires places { length uses.now ≡ 1024 }
-    requires inside { (p : ℕ) → p < 1024 → All (λ i. i < length left.old) (slice_index_or uses.now p []) }
+    requires queue { All (λ p. p < length uses.now) queue.now }
+    requires inside { (p : ℕ) → p < length uses.now → All (λ i. i < length left.old) (slice_index_or uses.now p []) }
     requires few { (i : ℕ) → i < length left.old → slice_index left.old i + uses_at i uses.now queue.now ≤ 8 }
     ensures { (i : ℕ) → i < length left.old → slice_index left.new i ≡ slice_index left.old i + uses_at i uses.now queue.now }
 {
-    for k in 0..queue.len() {
-        give_back(uses[queue.at(k)].items(), left);
+    for place in queue.places() {
+        give_back(uses[*place as usize].items(), left);
     }
 }
 
