@@ -86,7 +86,7 @@ rows_once asserted xs ys a b = same_rising row_cmp row_total row_same xs ys a.ri
 pub individuals_once : (rows : List NamedRow) (xs ys : List (List ℕ)) → AreIndividuals rows xs → AreIndividuals rows ys → xs ≡ ys
 individuals_once rows xs ys a b = same_rising name_cmp name_total name_same xs ys a.rising b.rising (λ n c. b.each n (a.only n c)) (λ n c. a.each n (b.only n c))
 
-contains_cut : {X : Type 0} (xs : List X) (x z : X) → Contains (xs ++ x ∷ []) z → (z ≡ x) ⊎ Contains xs z
+pub contains_cut : {X : Type 0} (xs : List X) (x z : X) → Contains (xs ++ x ∷ []) z → (z ≡ x) ⊎ Contains xs z
 contains_cut [] x z c = elim (contains_cases x [] z c) [ inl e ↦ inl e | inr d ↦ inr d ]
 contains_cut (y ∷ ys) x z c = elim (contains_cases y (ys ++ x ∷ []) z c) [
   | inl e ↦ inr (0, omega arith, sym e)

@@ -15,9 +15,15 @@ pub enum Form {
     /// A blank line or a comment.
     Skipped,
     /// An axiom between two concept names.
-    SubClass { sub: Name, sup: Name },
+    SubClass {
+        sub: Name,
+        sup: Name,
+    },
     /// A fact of a concept and an individual.
-    Fact { concept: Name, individual: Name },
+    Fact {
+        concept: Name,
+        individual: Name,
+    },
     /// A query of one concept, with the variable at the answer place and that of the atom.
     Ask {
         answer: Name,

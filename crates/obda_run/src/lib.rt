@@ -1,10 +1,15 @@
 //! The top call of the ontology database.
 #![tactic(auto)]
 
+mod answers;
+mod command;
+mod document;
+mod facts;
 mod forms;
+mod input;
 mod lines;
+mod reply;
 mod status;
 
+pub use command::serve;
 pub use status::Status;
-pub use lines::OpenLine;
-pub use forms::{DocLine, read_line};
