@@ -1,0 +1,2 @@
+pub mod LimitRules
+pub mod QueryRules
