@@ -1,4 +1,4 @@
-use Rattle.std.proofs.Common.{◌≡◌, true, sym, subst, List, Contains, ◌∙◌}
+use Rattle.std.proofs.Common.{◌≡◌, true, sym, subst, List, Contains}
 use Rattle.dl_base.specs.declared.query.Term.{Term}
 use Rattle.cq_reader.proofs.LimitRules.{distinct_known, distinct_added}
 use Rattle.cq_reader.proofs.limits.add_term.Goals as goal

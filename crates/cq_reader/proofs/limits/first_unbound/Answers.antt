@@ -1,4 +1,4 @@
-use Rattle.std.proofs.Common.{◌≡◌, ℕ, List, All, Contains, take, arith, subst}
+use Rattle.std.proofs.Common.{ℕ, List, All, Contains, arith, subst}
 use Rattle.std.proofs.lemmas.List.{take_all}
 use Rattle.std.proofs.lemmas.List.Elements.{All-more}
 use Rattle.dl_base.specs.declared.query.Term.TheVariants.{Var}
@@ -7,11 +7,10 @@ use Rattle.cq_reader.proofs.limits.first_unbound.Goals as goal
 pub loop-place-preserved : goal.loop-place-preserved
 loop-place-preserved c =
     let var = c.index-answers-place.result in
-    let here : Contains c.args.terms.now (Var var) = c.is_bound.ensures.0 c.if-not-is_bound.false in
-    (
+    let here : Contains c.args.terms.now (Var var) = c.is_bound.ensures.0 c.if-not-is_bound.false in (
       omega (arith, c.loop-place-test.true),
       All-more (λ v. Contains c.args.terms.now (Var v)) c.args.answers.now c.loop-place.place var c.loop-place-test.true c.loop-place.invariant.1
-      (subst (λ (v : List ℕ). Contains c.args.terms.now (Var v)) c.index-answers-place.is here),
+          (subst (λ (v : List ℕ). Contains c.args.terms.now (Var v)) c.index-answers-place.is here),
     )
 
 pub returns : goal.returns

@@ -1,4 +1,4 @@
-use Rattle.std.proofs.Common.{◌≡◌, ◌≤◌, All, Contains, length, take}
+use Rattle.std.proofs.Common.{◌≤◌, All, Contains, length, take}
 use Rattle.dl_base.specs.declared.query.Term.TheVariants.{Var}
 use Rattle.cq_reader.proofs.limits.first_unbound.Given as goal
 

@@ -4,7 +4,7 @@ use Rattle.dl_base.specs.Query.{Question, terms_of}
 use Rattle.dl_base.specs.declared.query.Term.{Term}
 use Rattle.dl_base.specs.declared.query.Term.TheVariants.{Var}
 use Rattle.dl_base.specs.declared.query.Atom.{Atom}
-use Rattle.cq_reader.specs.QueryLimits.{AreDistinctOf, IsSmall}
+use Rattle.cq_reader.specs.QueryLimits.{AreDistinctOf}
 use Rattle.cq_reader.proofs.LimitRules.{too_large_of, small_of, query_of, unbound_of}
 use Rattle.cq_reader.proofs.query.fitting.Goals as goal
 
