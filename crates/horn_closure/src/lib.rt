@@ -8,6 +8,8 @@ mod rules;
 mod run;
 mod seeds;
 mod steps;
+#[cfg(test)]
+mod tests;
 mod uses;
 
 pub use closed::Closed;
