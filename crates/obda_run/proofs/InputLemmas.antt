@@ -63,8 +63,10 @@ length-piece n buffer le = omega (arith, length-take n buffer)
 pub length-filled : (room : ℕ) (front whole : List ℕ) → length front ≡ length (take room whole) → room ≤ length whole → length (front ++ drop room whole) ≡ length whole
 length-filled room front whole same le = omega (arith, same, le, length-append front (drop room whole), length-drop room whole, length-take room whole)
 
+becomes : (ending e : Status) (read rest : List ℕ) → ending ≡ e → Ends e read rest → Ends ending read rest
+becomes ending e read rest is ends = subst (λ (s : Status). Ends s read rest) (sym is) ends
+
 -- a reply ends after the whole input
 pub ends_replied : (ending : Status) (read rest : List ℕ) → (ending ≡ status.Done) ⊎ (ending ≡ status.PrintFault) ⊎ (ending ≡ status.NoMemory) → GaveEnd read rest → Ends ending read rest
 ends_replied ending read rest only gave =
-    let as (e : Status) (is : ending ≡ e) (ends : Ends e read rest) : Ends ending read rest = subst (λ (s : Status). Ends s read rest) (sym is) ends in
-    ⊎_elim (λ is. as status.Done is gave) (λ other. ⊎_elim (λ is. as status.PrintFault is gave) (λ is. as status.NoMemory is gave.within) other) only
+    ⊎_elim (λ is. becomes ending status.Done read rest is gave) (λ other. ⊎_elim (λ is. becomes ending status.PrintFault read rest is gave) (λ is. becomes ending status.NoMemory read rest is gave.within) other) only

@@ -11,5 +11,8 @@ mod lines;
 mod reply;
 mod status;
 
+#[cfg(test)]
+mod tests;
+
 pub use command::serve;
 pub use status::Status;
