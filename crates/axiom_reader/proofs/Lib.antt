@@ -1,0 +1,6 @@
+pub mod ByWord
+pub mod ItemRules
+pub mod SideRules
+pub mod FormRules
+pub mod NamesRules
+pub mod MeaningRules

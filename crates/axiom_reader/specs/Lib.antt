@@ -1,0 +1,5 @@
+pub mod AxiomGrammar
+pub mod AxiomReading
+pub mod AxiomMeaning
+pub mod AxiomFault
+pub mod Vocabulary
