@@ -1,5 +1,5 @@
 -- Laws of rows: their order, and the strictly rising lists of what is asserted.
-use Rattle.std.proofs.Common.{◌≡◌, ℕ, zero, suc, ◌+◌, ◌<◌, ◌⊎◌, inl, inr, List, [], ◌∷◌, ◌++◌, length, Contains, refl, sym, ◌∙◌, ap, subst, arith, Bool, true, false}
+use Rattle.std.proofs.Common.{◌≡◌, ℕ, suc, ◌⊎◌, inl, inr, List, [], ◌∷◌, ◌++◌, Contains, refl, sym, ◌∙◌, ap, subst, arith}
 use Rattle.std.specs.Cmp.{IsTotalOrder}
 use Rattle.std.specs.Cmp.Lexicographic.{slice_cmp}
 use Rattle.std.specs.List.Sorted.{IsStrictlySortedBy}
@@ -9,12 +9,12 @@ use Rattle.std.specs.Ordering.{ordering_then, nat_cmp, on, then_cmp}
 use Rattle.std.proofs.lemmas.Cmp.{nat_cmp_total, nat_list_cmp_total, lists_total, on_total, then_total}
 use Rattle.std.proofs.lemmas.List.Elements.{Contains-append_left, Contains-push}
 use Rattle.dl_base.specs.Ontology.{Terminology}
-use Rattle.dl_base.specs.Rows.{name_cmp, row_cmp, row_of, AreRowsOf, AreIndividuals, IsIndividual, Names, Held, HasRow, HasConceptRow}
+use Rattle.dl_base.specs.Rows.{name_cmp, row_cmp, row_of, AreRowsOf, AreIndividuals, IsIndividual, Held}
 use Rattle.dl_base.specs.declared.concept.Basic.{Basic}
 use Rattle.dl_base.specs.declared.concept.Basic.TheVariants as basic
 use Rattle.dl_base.specs.declared.row.NamedRow.{NamedRow}
 use Rattle.dl_base.specs.declared.row.NamedRow.TheVariants as row
-use Rattle.dl_base.proofs.RisingLemmas.{nat_same, slice_same, same_rising, placed, placed_rises, placed_adds, length-placed, contains_cases, Adds}
+use Rattle.dl_base.proofs.RisingLemmas.{nat_same, slice_same, same_rising, placed, placed_rises, placed_adds, contains_cases}
 
 -- concept rows come first
 form_of : NamedRow → ℕ

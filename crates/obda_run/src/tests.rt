@@ -104,7 +104,7 @@ const REPLIES: [(&[u8], Status, &[u8]); 26] = [
     ),
     // Blanks, tabs and comments.
     (
-        b" \taxiom  SubClassOf ( A\tB ) \n# fact A y\n\t# fact A z\n fact A\t x \n \n\task  q ( ?x ) :-  B ( ?x )\t\n# the end",
+        b" \taxiom  SubClassOf( A\tB ) \n# fact A y\n\t# fact A z\n fact A\t x \n \n\task  q( ?x ) :-  B( ?x )\t\n# the end",
         Status::Done,
         b"answer x\nend 1\n",
     ),
