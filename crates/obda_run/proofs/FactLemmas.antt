@@ -1,8 +1,8 @@
 -- Laws of the facts of a document, as they are kept.
-use Rattle.std.proofs.Common.{◌≡◌, ◌≢◌, ℕ, zero, suc, ◌+◌, ◌-◌, ◌^◌, ◌<◌, ◌≤◌, ◌⊎◌, ◌↔◌, inl, inr, Bool, true, false, cond, not, ◌&&◌, List, [], ◌∷◌, ◌++◌, length, get_or, slice_get, Contains, All, AllPairs, Option, Some, None, refl, sym, ◌∙◌, ap, subst, arith, min, if◌then◌else◌}
-use Rattle.std.specs.Prelude.{IsSome, IsTrue, is_some, IsNone}
+use Rattle.std.proofs.Common.{◌≡◌, ◌≢◌, ℕ, suc, ◌+◌, ◌-◌, ◌^◌, ◌<◌, ◌≤◌, ◌⊎◌, ◌↔◌, inl, inr, Bool, true, false, cond, not, List, [], ◌∷◌, ◌++◌, length, get_or, slice_get, Contains, AllPairs, Option, Some, None, refl, sym, ◌∙◌, ap, subst, arith, min, if◌then◌else◌}
+use Rattle.std.specs.Prelude.{IsSome, is_some}
 use Rattle.std.specs.Map.{lookup, keys_of}
-use Rattle.std.specs.BTreeMap.{BTreeMap, get, IsOrdered, keys, btree_map_len, is_at, IsEmpty, Updates}
+use Rattle.std.specs.BTreeMap.{get, IsOrdered, keys, btree_map_len, is_at, Updates}
 use Rattle.std.specs.declared.cmp.Ordering.{Ordering}
 use Rattle.std.specs.declared.cmp.Ordering.TheVariants.{Less, Equal, Greater}
 use Rattle.std.specs.Ordering.{is_eq}
@@ -11,17 +11,17 @@ use Rattle.std.proofs.lemmas.Bool.{cases_order}
 use Rattle.std.proofs.lemmas.Option.{slice_get-get_or, slice_get_within}
 use Rattle.std.proofs.lemmas.Map.Entries.{length-keys_of}
 use Rattle.std.proofs.lemmas.List.Elements.{Contains-append_left, Contains-push}
-use Rattle.dl_base.specs.Ontology.{Terminology, IsPlaced}
-use Rattle.dl_base.specs.Rows.{name_cmp, row_cmp, AreRowsOf, AreIndividuals, IsIndividual, Names, Held, HasRow, HasConceptRow, row_of}
+use Rattle.dl_base.specs.Ontology.{Terminology}
+use Rattle.dl_base.specs.Rows.{name_cmp, row_cmp, AreRowsOf, AreIndividuals, IsIndividual, Names, Held, HasConceptRow, row_of}
 use Rattle.dl_base.specs.Sets.{HasBasic}
 use Rattle.dl_base.specs.declared.concept.Basic.{Basic}
 use Rattle.dl_base.specs.declared.concept.Basic.TheVariants as basic
 use Rattle.dl_base.specs.declared.row.NamedRow.{NamedRow}
 use Rattle.dl_base.specs.declared.row.NamedRow.TheVariants as row
 use Rattle.dl_base.proofs.RisingLemmas.{placed, placed_rises, placed_adds, length-placed, contains_cases, contains_first, contains_later}
-use Rattle.dl_base.proofs.RowLemmas.{name_total, name_same, row_total, row_same, rows_once, individuals_once, rows_none, rows_more, rows_again, none_rising, contains_cut, held_through, individual_through}
+use Rattle.dl_base.proofs.RowLemmas.{name_total, name_same, row_total, row_same, rows_once, individuals_once, rows_more, rows_again, contains_cut, held_through, individual_through}
 use Rattle.obda_run.specs.Document.{TooManyFacts, fact_of}
-use Rattle.obda_run.specs.Facts.{KeepsFacts, IsFound, IsSetOf}
+use Rattle.obda_run.specs.Facts.{KeepsFacts, IsSetOf}
 use Rattle.obda_run.specs.declared.facts.Facts.{Facts}
 
 -- ---- keys of a map

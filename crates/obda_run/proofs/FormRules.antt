@@ -1,16 +1,16 @@
 -- The reading of a line is exact.
-use Rattle.std.proofs.Common.{◌≡◌, ℕ, ◌+◌, ◌<◌, ◌≤◌, Bool, true, false, cond, List, [], ◌∷◌, ◌++◌, length, Result, Ok, Err, Option, Some, None, refl, sym, ap, subst, ◌∙◌, arith, inl, inr, ◌⊎◌}
+use Rattle.std.proofs.Common.{◌≡◌, ℕ, Bool, true, false, List, [], ◌∷◌, ◌++◌, Result, Ok, Err, Option, Some, None, refl, sym, ap, subst, ◌∙◌, inl, inr}
 use Rattle.std.specs.Prelude.{codes, ◌==◌, IsTrue, MatchOption}
 use Rattle.std.specs.List.{AllByRecursion}
 use Rattle.std.proofs.lemmas.List.{append-nil}
-use Rattle.grammar.specs.Bytes.{is_blank, is_name_byte, starts_name}
+use Rattle.grammar.specs.Bytes.{is_blank, is_name_byte}
 use Rattle.grammar.specs.Grammar.{Grammar, ◌>>=◌, ◌>>◌, ◌∣◌, means, literal, bytes_of}
 use Rattle.grammar.specs.Blanks.{blanks, some_blanks}
 use Rattle.grammar.specs.Reading.{next_is, whole}
-use Rattle.grammar.proofs.Exact.{Follow, Same, SameHead, Anything, Nothing, IsRead, IsWhole, IsValueOf, IsPlaceOf, exact_whole, same_trans, same_sym, same_refl, same_front, same_either, same_split}
+use Rattle.grammar.proofs.Exact.{Follow, Same, SameHead, Nothing, IsWhole, exact_whole, same_trans, same_sym, same_refl, same_front, same_either, same_split}
 use Rattle.grammar.proofs.Parts.{Stops}
 use Rattle.grammar.proofs.Rules.{Reads, FirstIs, first_literal, first_literal_is, first_or, first_then, first_blanks, first_some_blanks, reads_stop, reads_any, reads_then, reads_last, reads_literal, reads_blanks, reads_some_blanks, reads_means, reads_or, reads_same, found, fault}
-use Rattle.grammar.proofs.ByteKinds.{starting_not_blank, blank_not, apart_from}
+use Rattle.grammar.proofs.ByteKinds.{starting_not_blank, blank_not}
 use Rattle.dl_base.specs.Names.{name, variable}
 use Rattle.dl_base.proofs.NameRules.{first_name, reads_name, reads_variable}
 use Rattle.obda_run.specs.Forms.{axiom_form, fact_form, ask_form, built_form, comment, form_line, Says, IsDocLine}

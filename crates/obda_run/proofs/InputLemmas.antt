@@ -1,5 +1,5 @@
 -- A run so far.
-use Rattle.std.proofs.Common.{◌≡◌, ◌⊎◌, ⊎_elim, ◌≤◌, ◌+◌, ℕ, List, [], ◌∷◌, ◌++◌, length, take, drop, refl, sym, ◌∙◌, ap, subst, append_assoc, arith, Some, None, Option, Result, Ok, Err, length-append, IfErr}
+use Rattle.std.proofs.Common.{◌≡◌, ◌⊎◌, ⊎_elim, ◌≤◌, ◌+◌, ℕ, List, [], ◌++◌, length, take, drop, refl, sym, ◌∙◌, ap, subst, append_assoc, arith, Some, Option, Result, Ok, Err, length-append, IfErr}
 use Rattle.std.proofs.lemmas.List.{length-take, length-drop}
 use Rattle.host_io.specs.Source.{Takes, AtEnd}
 use Rattle.obda_run.specs.Run.{Reads, GaveEnd, Ends, HasStopped, Stops, IsEarly, IsFinal}

@@ -1,9 +1,9 @@
 -- Laws of cutting into lines.
-use Rattle.std.proofs.Common.{◌≡◌, ◌≢◌, ◌==◌, ◌&&◌, ℕ, zero, suc, ◌+◌, ◌-◌, ◌<◌, ◌≤◌, ◌⊎◌, inl, inr, Bool, true, false, cond, not, List, [], ◌∷◌, ◌++◌, length, take, drop, get_or, map, Option, Some, None, refl, sym, ◌∙◌, ap, subst, append_assoc, arith, length-append, if◌then◌else◌, All, min}
+use Rattle.std.proofs.Common.{◌≡◌, ◌==◌, ◌&&◌, ℕ, suc, ◌+◌, ◌-◌, ◌<◌, ◌≤◌, inl, inr, Bool, true, false, not, List, [], ◌∷◌, ◌++◌, length, take, get_or, map, Some, None, refl, sym, ◌∙◌, ap, subst, append_assoc, arith, if◌then◌else◌, min}
 use Rattle.std.specs.Prelude.{nat_lt}
 use Rattle.std.specs.List.{flat_map, AllByRecursion, position, position_or_len}
-use Rattle.std.proofs.lemmas.List.{append-nil, append_cancel_left, length-take, length-take-le, take_more, take_all, take-append-le, get_or-take, map-append}
-use Rattle.std.proofs.lemmas.List.Sums.{prefix_len_passes, prefix_len_stops, prefix_len-le-length}
+use Rattle.std.proofs.lemmas.List.{append-nil, length-take, length-take-le, take_more, take_all, take-append-le, get_or-take}
+use Rattle.std.proofs.lemmas.List.Sums.{prefix_len_passes, prefix_len_stops}
 use Rattle.std.proofs.lemmas.Bool.{eqb-false, eqb-true, ltb-true, ltb-false, cases_order}
 use Rattle.std.proofs.Math.Seq.{take-append-add}
 use Rattle.dl_base.proofs.DerivationLemmas.{all-by}

@@ -1,5 +1,5 @@
 -- What a document is, and which of its lines offends first.
-use Rattle.std.specs.Prelude.{◌≡◌, ◌≢◌, ℕ, ◌+◌, ◌<◌, ◌≤◌, ◌⊎◌, List, [], ◌∷◌, ◌++◌, length, Contains, Option, Some, None, IsSome}
+use Rattle.std.specs.Prelude.{◌≡◌, ◌≢◌, ℕ, ◌+◌, ◌<◌, ◌⊎◌, List, [], ◌∷◌, ◌++◌, length, Contains, Option, Some, None, IsSome}
 use Rattle.std.specs.List.{flat_map}
 use Rattle.dl_base.specs.Ontology.{Terminology}
 use Rattle.dl_base.specs.Axiom.{Statement, with_names, IsExtended}
@@ -10,7 +10,6 @@ use Rattle.dl_base.specs.declared.axiom.NamedHead.TheVariants as named_head
 use Rattle.dl_base.specs.declared.row.NamedRow.{NamedRow}
 use Rattle.dl_base.specs.declared.row.NamedRow.TheVariants as row
 use Rattle.dl_base.specs.declared.query.Term.TheVariants as term
-use Rattle.dl_base.specs.declared.query.Atom.{Atom}
 use Rattle.dl_base.specs.declared.query.Atom.TheVariants as atom
 use Rattle.obda_run.specs.Lines.{AreLines}
 use Rattle.obda_run.specs.Forms.{IsDocLine}

@@ -1,6 +1,6 @@
 -- What is kept of the facts of a document.
 use Rattle.std.specs.Prelude.{◌≡◌, ℕ, ◌≤◌, ◌↔◌, List, length, Contains, Option, Some, None, IsSome, slice_get}
-use Rattle.std.specs.BTreeMap.{get, IsOrdered, keys, btree_map_len}
+use Rattle.std.specs.BTreeMap.{get, IsOrdered, btree_map_len}
 use Rattle.dl_base.specs.Ontology.{Terminology}
 use Rattle.dl_base.specs.Rows.{name_cmp, AreRowsOf, IsIndividual, Held}
 use Rattle.dl_base.specs.Sets.{HasBasic}

@@ -1,5 +1,5 @@
 -- A line that hasn't ended, while its input comes in pieces.
-use Rattle.std.specs.Prelude.{◌≡◌, ℕ, ◌+◌, ◌≤◌, ◌<◌, List, [], ◌∷◌, ◌++◌, length, take, Bool, true, false}
+use Rattle.std.specs.Prelude.{◌≡◌, ℕ, ◌≤◌, ◌<◌, List, [], ◌∷◌, ◌++◌, length, take, Bool, true, false}
 use Rattle.obda_run.specs.Lines.{HasNoEnd, line_of}
 
 -- what is kept of the bytes behind the last line end: enough to tell whether the line is too long

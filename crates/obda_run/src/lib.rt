@@ -10,7 +10,6 @@ mod input;
 mod lines;
 mod reply;
 mod status;
-
 #[cfg(test)]
 mod tests;
 

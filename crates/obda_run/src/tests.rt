@@ -50,9 +50,17 @@ const REPLIES: [(&[u8], Status, &[u8]); 26] = [
         b"",
     ),
     // Forms that aren't built, and lines that have none.
-    (b"axiom Class(A)\n", Status::Refused { code: 99, line: 1 }, b""),
+    (
+        b"axiom Class(A)\n",
+        Status::Refused { code: 99, line: 1 },
+        b"",
+    ),
     (b"fact A", Status::Refused { code: 99, line: 1 }, b""),
-    (b"\n\nnonsense\n", Status::Refused { code: 99, line: 3 }, b""),
+    (
+        b"\n\nnonsense\n",
+        Status::Refused { code: 99, line: 3 },
+        b"",
+    ),
     (
         b"axiom SubClassOf(A B)\nask q(?x) :- A(?y)\n",
         Status::Refused { code: 99, line: 2 },
@@ -137,7 +145,12 @@ fn command_line(alloc: Global, words: &[&str]) -> Result<Vec<String>, Fail> {
 }
 
 // A run over a document.
-fn answer(alloc: Global, document: Bytes, fails: Calls, host: &mut MemHost) -> Result<Status, Fail> {
+fn answer(
+    alloc: Global,
+    document: Bytes,
+    fails: Calls,
+    host: &mut MemHost,
+) -> Result<Status, Fail> {
     let words = command_line(alloc, &["answer"])?;
     let mut source = MemSource::new(document, fails);
     Ok(serve(alloc, &words, &mut source, host))
@@ -149,7 +162,10 @@ fn documents_have_their_replies(rt: HostRuntime) -> Result<(), Fail> {
     for (document, want, printed) in REPLIES {
         let mut host = MemHost::new(alloc, Calls::new(alloc));
         let document = Bytes::from_slice(alloc, document)?;
-        assert_eq!(rt; answer(alloc, document, Calls::new(alloc), &mut host)?, want);
+        assert_eq!(rt;
+            answer(alloc, document, Calls::new(alloc), &mut host)?,
+            want
+        );
         assert_eq!(rt; host.printed().items(), printed);
     }
     Ok(())
@@ -209,7 +225,10 @@ fn a_first_read_that_fails_is_a_read_fault(rt: HostRuntime) -> Result<(), Fail> 
     let document = Bytes::from_slice(alloc, REPLIES[0].0)?;
     let mut host = MemHost::new(alloc, Calls::new(alloc));
     let fails = Calls::from_slice(alloc, &[1])?;
-    assert_eq!(rt; answer(alloc, document, fails, &mut host)?, Status::ReadFault);
+    assert_eq!(rt;
+        answer(alloc, document, fails, &mut host)?,
+        Status::ReadFault
+    );
     assert_eq!(rt; host.calls(), 0);
     Ok(())
 }
@@ -219,7 +238,10 @@ fn a_first_print_that_fails_is_a_print_fault(rt: HostRuntime) -> Result<(), Fail
     let alloc = rt.alloc();
     let document = Bytes::from_slice(alloc, REPLIES[0].0)?;
     let mut host = MemHost::new(alloc, Calls::from_slice(alloc, &[1])?);
-    assert_eq!(rt; answer(alloc, document, Calls::new(alloc), &mut host)?, Status::PrintFault);
+    assert_eq!(rt;
+        answer(alloc, document, Calls::new(alloc), &mut host)?,
+        Status::PrintFault
+    );
     assert_eq!(rt; host.printed().items(), b"".as_slice());
     assert_eq!(rt; host.lacked(), 0);
     Ok(())
@@ -239,8 +261,14 @@ fn an_input_is_not_too_large_at_the_limit(rt: HostRuntime) -> Result<(), Fail> {
     let alloc = rt.alloc();
     let mut host = MemHost::new(alloc, Calls::new(alloc));
     let document = comments(alloc, 67_108_864)?;
-    let refused = Status::Refused { code: 1, line: 16_385 };
-    assert_eq!(rt; answer(alloc, document, Calls::new(alloc), &mut host)?, refused);
+    let refused = Status::Refused {
+        code: 1,
+        line: 16_385,
+    };
+    assert_eq!(rt;
+        answer(alloc, document, Calls::new(alloc), &mut host)?,
+        refused
+    );
     Ok(())
 }
 
@@ -249,7 +277,10 @@ fn an_input_is_too_large_behind_the_limit(rt: HostRuntime) -> Result<(), Fail> {
     let alloc = rt.alloc();
     let mut host = MemHost::new(alloc, Calls::new(alloc));
     let document = comments(alloc, 67_108_865)?;
-    assert_eq!(rt; answer(alloc, document, Calls::new(alloc), &mut host)?, Status::InputTooLarge);
+    assert_eq!(rt;
+        answer(alloc, document, Calls::new(alloc), &mut host)?,
+        Status::InputTooLarge
+    );
     assert_eq!(rt; host.calls(), 0);
     Ok(())
 }
@@ -278,7 +309,10 @@ fn a_line_has_4096_bytes_at_most(rt: HostRuntime) -> Result<(), Fail> {
     for (length, want) in rows {
         let mut host = MemHost::new(alloc, Calls::new(alloc));
         let document = behind_a_comment(alloc, length)?;
-        assert_eq!(rt; answer(alloc, document, Calls::new(alloc), &mut host)?, want);
+        assert_eq!(rt;
+            answer(alloc, document, Calls::new(alloc), &mut host)?,
+            want
+        );
     }
     Ok(())
 }
@@ -298,10 +332,19 @@ fn individuals_are_65536_at_most(rt: HostRuntime) -> Result<(), Fail> {
     let alloc = rt.alloc();
     let mut host = MemHost::new(alloc, Calls::new(alloc));
     let document = individuals(alloc, 65_536)?;
-    assert_eq!(rt; answer(alloc, document, Calls::new(alloc), &mut host)?, Status::Done);
+    assert_eq!(rt;
+        answer(alloc, document, Calls::new(alloc), &mut host)?,
+        Status::Done
+    );
     assert!(rt; host.printed().items().ends_with(b"end 65536\n"));
     let document = individuals(alloc, 65_537)?;
-    let refused = Status::Refused { code: 99, line: 65_538 };
-    assert_eq!(rt; answer(alloc, document, Calls::new(alloc), &mut host)?, refused);
+    let refused = Status::Refused {
+        code: 99,
+        line: 65_538,
+    };
+    assert_eq!(rt;
+        answer(alloc, document, Calls::new(alloc), &mut host)?,
+        refused
+    );
     Ok(())
 }

@@ -1,4 +1,3 @@
-use Rattle.std.proofs.Common.{◌≡◌}
 use Rattle.horn_closure.specs.Closure.{IsScratchOf}
 use Rattle.obda_run.proofs.answers.answers.Given as goal
 

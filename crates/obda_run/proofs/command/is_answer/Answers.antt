@@ -1,4 +1,4 @@
-use Rattle.std.proofs.Common.{◌≡◌, ◌∙◌, sym, ap, map, string_bytes, ◌∷◌, [], Global}
+use Rattle.std.proofs.Common.{◌∙◌, sym, ap, map, string_bytes, ◌∷◌, [], Global}
 use Rattle.obda_run.proofs.CommandLemmas.{one_item, same_item}
 use Rattle.obda_run.proofs.command.is_answer.Goals as goal
 

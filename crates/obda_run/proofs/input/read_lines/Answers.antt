@@ -1,4 +1,4 @@
-use Rattle.std.proofs.Common.{◌≡◌, ◌≤◌, ◌<◌, ◌+◌, ℕ, List, [], length, take, drop, arith, refl, ap, sym, ◌∙◌, subst}
+use Rattle.std.proofs.Common.{◌≡◌, ◌<◌, ◌+◌, ℕ, [], take, arith, refl, ap, ◌∙◌, subst}
 use Rattle.obda_run.specs.declared.status.Status.TheVariants as status
 use Rattle.obda_run.proofs.InputLemmas.{Taken, stopped, taken_more, ended, stops_final, within_room, length-piece, length-filled}
 use Rattle.obda_run.proofs.input.read_lines.Goals as goal

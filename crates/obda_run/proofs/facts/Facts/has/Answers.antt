@@ -1,4 +1,3 @@
-use Rattle.std.proofs.Common.{◌∙◌, true, false}
 use Rattle.obda_run.proofs.FactLemmas.{has_fact, unknown_new}
 use Rattle.obda_run.proofs.facts.Facts.has.Goals as goal
 

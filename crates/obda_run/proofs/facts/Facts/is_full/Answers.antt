@@ -1,4 +1,4 @@
-use Rattle.std.proofs.Common.{◌≡◌, true, false, refl, arith}
+use Rattle.std.proofs.Common.{◌≡◌, true, refl, arith}
 use Rattle.std.proofs.lemmas.Bool.{leb-true}
 use Rattle.obda_run.proofs.FactLemmas.{no_place, full_is, not_full}
 use Rattle.obda_run.proofs.facts.Facts.is_full.Goals as goal

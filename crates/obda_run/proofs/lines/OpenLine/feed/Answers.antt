@@ -1,4 +1,4 @@
-use Rattle.std.proofs.Common.{◌≡◌, ◌+◌, ◌∙◌, sym, refl, take, arith}
+use Rattle.std.proofs.Common.{◌∙◌, sym, refl, take, arith}
 use Rattle.obda_run.proofs.LineLemmas.{FoundEnd, end_found, end_not_found}
 use Rattle.obda_run.proofs.lines.OpenLine.feed.Goals as goal
 

@@ -1,5 +1,5 @@
-use Rattle.std.proofs.Common.{◌≡◌, ◌≤◌, ◌+◌, ◌-◌, ◌++◌, ◌∙◌, List, ℕ, length, take, min, arith, ap, Result, Ok, Err, if◌then◌else◌}
-use Rattle.std.specs.Prelude.{is_ok, IsOk, vec_len}
+use Rattle.std.proofs.Common.{◌≡◌, ◌-◌, ◌++◌, ◌∙◌, List, ℕ, length, take, min, arith, ap, Result, Ok, Err, if◌then◌else◌}
+use Rattle.std.specs.Prelude.{is_ok, IsOk}
 use Rattle.std.proofs.lemmas.List.{length-take}
 use Rattle.obda_run.proofs.LineLemmas.{kept_some}
 use Rattle.obda_run.proofs.lines.OpenLine.keep.Goals as goal
