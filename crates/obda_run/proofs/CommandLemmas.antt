@@ -1,6 +1,20 @@
--- Lists of one item.
-use Rattle.std.proofs.Common.{◌≡◌, ◌≤◌, ◌<◌, List, [], ◌∷◌, length, sym, ap, arith}
+-- The endings of a call.
+use Rattle.std.proofs.Common.{◌≡◌, ◌≤◌, ◌<◌, ◌⊎◌, inl, inr, ◌++◌, ℕ, List, [], ◌∷◌, Option, length, refl, sym, ◌∙◌, ap, subst, arith, length-append}
+use Rattle.std.proofs.lemmas.List.{append-nil}
+use Rattle.dl_base.specs.Ontology.{Terminology}
+use Rattle.dl_base.specs.Query.{Question}
+use Rattle.dl_base.specs.declared.row.NamedRow.{NamedRow}
+use Rattle.obda_run.specs.Document.{IsDocument, Asks, Refused as IsRefused}
+use Rattle.obda_run.specs.Drafting.{IsWhole, HasReply}
+use Rattle.obda_run.specs.Text.{answers_text}
+use Rattle.obda_run.specs.Run.{Reads, GaveEnd, Ends, Ran, RepliesTo, IsDocumentOf}
+use Rattle.obda_run.specs.declared.document.Document.{Document}
+use Rattle.obda_run.specs.declared.status.Status.{Status}
+use Rattle.obda_run.specs.declared.status.Status.TheVariants as status
+use Rattle.obda_run.proofs.DocumentLemmas.{refused_once, not_both_meanings}
 use lib.ListN.{get_or}
+
+-- ---- lists of one item
 
 pub one_item : {A : Type 0} (xs : List A) (x : A) → 1 ≤ length xs → length xs < 2 → x ≡ get_or xs 0 x → xs ≡ x ∷ []
 one_item [] x some few is = absurd (omega (arith, some))
@@ -9,3 +23,77 @@ one_item (y ∷ z ∷ zs) x some few is = absurd (omega (arith, few))
 
 pub same_item : {A : Type 0} (x y : A) → x ∷ [] ≡ y ∷ [] → x ≡ y
 same_item x y same = ap (λ l. get_or l 0 x) same
+
+-- ---- the reply
+
+-- the text of the keys is that of the reply to the document
+pub replies_to : (read text : List ℕ) (keys : List (List (List ℕ))) (document : Document) → IsDocumentOf read document
+    → ((lines : List (List ℕ)) → IsWhole lines document → HasReply lines document.ontology keys) → text ≡ answers_text keys → RepliesTo read text
+replies_to read text keys document d replies is =
+    let reply = replies d.lines d.whole in
+    record {
+      ontology = document.ontology;
+      rows = reply.rows;
+      query = reply.query;
+      document = record { lines = d.lines; cut = d.cut; means = reply.says };
+      keys = keys;
+      reply = reply.reply;
+      text_is = is;
+    }
+
+-- ---- what a document's meaning leaves
+
+whole_input : (input read rest : List ℕ) (left : Option (List ℕ)) → Reads input left read rest → GaveEnd read rest → input ≡ read
+whole_input input read rest left reads gave = reads.parts ∙ ap (λ (l : List ℕ). read ++ l) gave.all ∙ append-nil read
+
+too_large : (input read rest : List ℕ) (left : Option (List ℕ)) → Reads input left read rest → length input ≤ 67108864 → length read ≡ 67108865 → ⊥
+too_large input read rest left reads few is = omega (arith, few, is, ap length reads.parts, length-append read rest)
+
+module _ (input : List ℕ) (left old new : Option (List ℕ)) (few : length input ≤ 67108864) where
+  module _ (code line : ℕ) (document : IsDocument input (IsRefused code line)) where
+    not_replied : (read rest text : List ℕ) → Reads input left read rest → GaveEnd read rest → RepliesTo read text → ⊥
+    not_replied read rest text reads gave r =
+        not_both_meanings read code line r.ontology r.rows r.query
+        (subst (λ (l : List ℕ). IsDocument l (IsRefused code line)) (whole_input input read rest left reads gave) document) r.document
+
+    same_refusal : (read rest : List ℕ) (code' line' : ℕ) → Reads input left read rest → GaveEnd read rest → IsDocument read (IsRefused code' line') → status.Refused code' line' ≡ status.Refused code line
+    same_refusal read rest code' line' reads gave r =
+        let once = refused_once read code' line' code line r (subst (λ (l : List ℕ). IsDocument l (IsRefused code line)) (whole_input input read rest left reads gave) document) in
+        ap (λ (c : ℕ). status.Refused c line') once.0 ∙ ap (λ (n : ℕ). status.Refused code n) once.1
+
+    refused_by : (ending : Status) (read rest : List ℕ) → Reads input left read rest → Ends ending read rest old new
+        → (ending ≡ status.Refused code line) ⊎ (ending ≡ status.ReadFault) ⊎ (ending ≡ status.NoMemory)
+    refused_by (status.Refused code' line') read rest reads ends = inl (same_refusal read rest code' line' reads ends.0.0 ends.0.1)
+    refused_by status.ReadFault read rest reads ends = inr (inl refl)
+    refused_by status.NoMemory read rest reads ends = inr (inr refl)
+    refused_by status.Done read rest reads ends = absurd (not_replied read rest ends.1.0 reads ends.0 ends.1.1)
+    refused_by status.PrintFault read rest reads ends = absurd (not_replied read rest ends.1.0 reads ends.0 ends.1.1)
+    refused_by status.InputTooLarge read rest reads ends = absurd (too_large input read rest left reads few ends.0)
+    refused_by status.Usage read rest reads ends = absurd ends
+    refused_by status.DiskFault read rest reads ends = absurd ends
+    refused_by (status.Damaged area at) read rest reads ends = absurd ends
+
+    -- a document with an offending line is refused
+    pub refused_only : (ending : Status) → Ran ending input left old new → (ending ≡ status.Refused code line) ⊎ (ending ≡ status.ReadFault) ⊎ (ending ≡ status.NoMemory)
+    refused_only ending r = refused_by ending r.read r.rest r.reads r.ends
+
+  module _ (o : Terminology) (rows : List NamedRow) (q : Question) (document : IsDocument input (Asks o rows q)) where
+    not_refused : (read rest : List ℕ) (code line : ℕ) → Reads input left read rest → GaveEnd read rest → IsDocument read (IsRefused code line) → ⊥
+    not_refused read rest code line reads gave r =
+        not_both_meanings read code line o rows q r (subst (λ (l : List ℕ). IsDocument l (Asks o rows q)) (whole_input input read rest left reads gave) document)
+
+    answered_by : (ending : Status) (read rest : List ℕ) → Reads input left read rest → Ends ending read rest old new
+        → (ending ≡ status.Done) ⊎ (ending ≡ status.ReadFault) ⊎ (ending ≡ status.PrintFault) ⊎ (ending ≡ status.NoMemory)
+    answered_by status.Done read rest reads ends = inl refl
+    answered_by status.ReadFault read rest reads ends = inr (inl refl)
+    answered_by status.PrintFault read rest reads ends = inr (inr (inl refl))
+    answered_by status.NoMemory read rest reads ends = inr (inr (inr refl))
+    answered_by (status.Refused code line) read rest reads ends = absurd (not_refused read rest code line reads ends.0.0 ends.0.1)
+    answered_by status.InputTooLarge read rest reads ends = absurd (too_large input read rest left reads few ends.0)
+    answered_by status.Usage read rest reads ends = absurd ends
+    answered_by status.DiskFault read rest reads ends = absurd ends
+    answered_by (status.Damaged area at) read rest reads ends = absurd ends
+
+    -- a document without an offending line is answered
+    pub answered_only : (ending : Status) → Ran ending input left old new → (ending ≡ status.Done) ⊎ (ending ≡ status.ReadFault) ⊎ (ending ≡ status.PrintFault) ⊎ (ending ≡ status.NoMemory)
+    answered_only ending r = answered_by ending r.read r.rest r.reads r.ends

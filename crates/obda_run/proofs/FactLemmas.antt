@@ -24,6 +24,29 @@ use Rattle.obda_run.specs.Document.{TooManyFacts, fact_of}
 use Rattle.obda_run.specs.Facts.{KeepsFacts, IsSetOf}
 use Rattle.obda_run.specs.declared.facts.Facts.{Facts}
 
+-- ---- items by their places
+
+pub some_same : {X : Type 0} (x y : X) → Some x ≡ Some y → x ≡ y
+some_same x y e = cc
+
+pub got_there : {X : Type 0} (xs : List X) (i : ℕ) (x : X) → slice_get xs i ≡ Some x → Contains xs x
+got_there xs i x is =
+    let within : i < length xs = slice_get_within xs i x is in
+    (i, within, some_same (get_or xs i x) x (sym (slice_get-get_or xs i x within) ∙ is))
+
+-- a name has one place in a book of distinct names
+pub one_place : (names : List (List ℕ)) (name : List ℕ) (i j : ℕ) → AllPairs (λ x y. x ≢ y) names → slice_get names i ≡ Some name → slice_get names j ≡ Some name → i ≡ j
+one_place names name i j distinct at_i at_j =
+    let a : get_or names i [] ≡ name = some_same _ _ (sym (slice_get-get_or names i [] (slice_get_within names i name at_i)) ∙ at_i) in
+    let b : get_or names j [] ≡ name = some_same _ _ (sym (slice_get-get_or names j [] (slice_get_within names j name at_j)) ∙ at_j) in
+    elim (cases_order i j) [
+      | inl same ↦ same
+      | inr either ↦ elim either [
+        | inl below ↦ absurd (distinct i j [] below (slice_get_within names j name at_j) (a ∙ sym b))
+        | inr above ↦ absurd (distinct j i [] above (slice_get_within names i name at_i) (b ∙ sym a))
+      ]
+    ]
+
 -- ---- keys of a map
 
 equal_is : (r : Ordering) → is_eq r ≡ true → r ≡ Equal
@@ -31,7 +54,7 @@ equal_is Less e = absurd cc
 equal_is Equal e = refl
 equal_is Greater e = absurd cc
 
-at_same : (a x : List ℕ) → is_at (name_cmp a) x ≡ true → a ≡ x
+pub at_same : (a x : List ℕ) → is_at (name_cmp a) x ≡ true → a ≡ x
 at_same a x e = name_same a x (equal_is (name_cmp a x) e)
 
 at_itself : (a : List ℕ) → is_at (name_cmp a) a ≡ true
@@ -203,9 +226,6 @@ module _ (o : Terminology) (asserted : List NamedRow) (facts : Facts) (k : Keeps
 
   -- ---- what is held
 
-  some_same : {X : Type 0} (x y : X) → Some x ≡ Some y → x ≡ y
-  some_same x y e = cc
-
   -- the set that is found has exactly what is held
   pub set_has : (set : List ℕ) (b : Basic) → IsSetOf (get name_cmp facts.held a) set → HasBasic set b ↔ Held o asserted a b
   set_has set b is = by (get name_cmp facts.held a) refl is
@@ -289,30 +309,12 @@ module _ (o : Terminology) (asserted : List NamedRow) (facts : Facts) (k : Keeps
   ]
   held_before x (basic.Exists r) other (y, h) = (y, record { name = h.name; named = h.named; there = role_before h.name r.inverse x y h.there })
 
-  got_there : (xs : List (List ℕ)) (i : ℕ) (x : List ℕ) → slice_get xs i ≡ Some x → Contains xs x
-  got_there xs i x is =
-      let within : i < length xs = slice_get_within xs i x is in
-      (i, within, some_same (get_or xs i x) x (sym (slice_get-get_or xs i x within) ∙ is))
-
-  -- a name has one place in a book of distinct names
-  one_place : (i j : ℕ) → AllPairs (λ x y. x ≢ y) o.concepts → slice_get o.concepts i ≡ Some name → slice_get o.concepts j ≡ Some name → i ≡ j
-  one_place i j distinct at_i at_j =
-      let a : get_or o.concepts i [] ≡ name = some_same _ _ (sym (slice_get-get_or o.concepts i [] (slice_get_within o.concepts i name at_i)) ∙ at_i) in
-      let b : get_or o.concepts j [] ≡ name = some_same _ _ (sym (slice_get-get_or o.concepts j [] (slice_get_within o.concepts j name at_j)) ∙ at_j) in
-      elim (cases_order i j) [
-        | inl same ↦ same
-        | inr either ↦ elim either [
-          | inl below ↦ absurd (distinct i j [] below (slice_get_within o.concepts j name at_j) (a ∙ sym b))
-          | inr above ↦ absurd (distinct j i [] above (slice_get_within o.concepts i name at_i) (b ∙ sym a))
-        ]
-      ]
-
   module _ (place : ℕ) (distinct : AllPairs (λ x y. x ≢ y) o.concepts) (at : slice_get o.concepts place ≡ Some name) where
     -- what the individual holds with one more fact
     held_now : (b : Basic) → Held o (asserted ++ fact_of name a ∷ []) a b ↔ ((b ≡ basic.Concept place) ⊎ Held o asserted a b)
     held_now (basic.Concept c) = (
       λ h. elim (contains_cut asserted (fact_of name a) (row.Concept h.name a) h.there) [
-        | inl same ↦ inl (ap basic.Concept (one_place c place distinct (h.named ∙ ap Some (same_fact h.name a same).0) at))
+        | inl same ↦ inl (ap basic.Concept (one_place o.concepts name c place distinct (h.named ∙ ap Some (same_fact h.name a same).0) at))
         | inr old ↦ inr (record { name = h.name; named = h.named; there = old })
       ],
       λ either. elim either [

@@ -1,34 +1,149 @@
 -- A run so far.
-use Rattle.std.proofs.Common.{◌≡◌, ◌⊎◌, ⊎_elim, ◌≤◌, ◌+◌, ℕ, List, [], ◌++◌, length, take, drop, refl, sym, ◌∙◌, ap, subst, append_assoc, arith, Some, Option, Result, Ok, Err, length-append, IfErr}
-use Rattle.std.proofs.lemmas.List.{length-take, length-drop}
+use Rattle.std.proofs.Common.{◌≡◌, ◌≢◌, ◌==◌, true, ◌≤◌, ◌<◌, ◌+◌, ◌-◌, ◌^◌, ℕ, List, [], ◌∷◌, ◌++◌, length, take, drop, map, refl, sym, ◌∙◌, ap, subst, append_assoc, arith, Some, Option, Result, Ok, Err, length-append}
+use Rattle.std.proofs.lemmas.List.{length-take, length-drop, length-map, append-nil, map-append, take_all, take-append-drop}
+use Rattle.std.proofs.lemmas.Bool.{eqb-true}
 use Rattle.host_io.specs.Source.{Takes, AtEnd}
-use Rattle.obda_run.specs.Run.{Reads, GaveEnd, Ends, HasStopped, Stops, IsEarly, IsFinal}
+use Rattle.obda_run.specs.Lines.{AreLines, line_of, last_line}
+use Rattle.obda_run.specs.Feeding.{kept, StandsFor, EndsLine, GoesOn}
+use Rattle.obda_run.specs.Drafting.{KeepsDraft, Finishes}
+use Rattle.obda_run.specs.Run.{Reads, GaveEnd, EndsEarly, Ends, Replies, HasStopped, Stops, IsReading, IsRead}
 use Rattle.obda_run.specs.declared.document.Document.{Document}
+use Rattle.obda_run.specs.declared.document.Draft.{Draft}
 use Rattle.obda_run.specs.declared.status.Status.{Status}
 use Rattle.obda_run.specs.declared.status.Status.TheVariants as status
+use Rattle.obda_run.proofs.LineLemmas.{ended_from, open_from, lines_of, ended-append, open-append, ended_none, open_none, ended_one, open_one, is_cut, cut_ended, cut_open, are_lines, length-ended, kept_more, stands}
+
+-- ---- the bytes so far
+
+ended_so_far : (read line : List ℕ) (draft : Draft) (r : IsReading read line draft) → ended_from [] read ≡ r.pieces
+ended_so_far read line draft r = ap (ended_from []) r.cut.joined ∙ cut_ended r.pieces r.rest r.cut.none_inside r.cut.none_behind
+
+open_so_far : (read line : List ℕ) (draft : Draft) (r : IsReading read line draft) → open_from [] read ≡ r.rest
+open_so_far read line draft r = ap (open_from []) r.cut.joined ∙ cut_open r.pieces r.rest r.cut.none_inside r.cut.none_behind
+
+line_so_far : (read line : List ℕ) (draft : Draft) → IsReading read line draft → line ≡ kept (open_from [] read)
+line_so_far read line draft r = r.line_is ∙ ap kept (sym (open_so_far read line draft r))
+
+pub keeps_so_far : (read line : List ℕ) (draft : Draft) → IsReading read line draft → KeepsDraft (map line_of (ended_from [] read)) draft
+keeps_so_far read line draft r = subst (λ (ps : List (List ℕ)). KeepsDraft (map line_of ps) draft) (sym (ended_so_far read line draft r)) r.keeps
+
+is_reading : (read line : List ℕ) (draft : Draft) → line ≡ kept (open_from [] read) → KeepsDraft (map line_of (ended_from [] read)) draft → IsReading read line draft
+is_reading read line draft is keeps = record { pieces = ended_from [] read; rest = open_from [] read; cut = is_cut read; line_is = is; keeps = keeps }
+
+pub reading_none : (line : List ℕ) (draft : Draft) → line ≡ [] → KeepsDraft [] draft → IsReading [] line draft
+reading_none line draft is keeps = is_reading [] line draft is keeps
+
+pub few_lines : (read : List ℕ) → length (map line_of (ended_from [] read)) ≤ length read
+few_lines read = omega (arith, length-map (ended_from [] read) line_of, length-ended [] read)
+
+-- bytes without a line end
+pub reading_goes_on : (read old new input : List ℕ) (count : ℕ) (draft : Draft) → IsReading read old draft → GoesOn old input count new → IsReading (read ++ take count input) new draft
+reading_goes_on read old new input count draft r g =
+    let all : take count input ≡ input = take_all count input (omega (arith, g.all)) in
+    let behind : open_from [] (read ++ input) ≡ open_from [] read ++ input = open-append [] read input ∙ open_none (open_from [] read) input g.no_end in
+    let ended : ended_from [] (read ++ input) ≡ ended_from [] read = ended-append [] read input ∙ ap (λ (l : List (List ℕ)). ended_from [] read ++ l) (ended_none (open_from [] read) input g.no_end) ∙ append-nil (ended_from [] read) in
+    let line : new ≡ kept (open_from [] (read ++ input)) = g.now ∙ ap (λ (l : List ℕ). kept (l ++ input)) (line_so_far read old draft r) ∙ kept_more (open_from [] read) input ∙ ap kept (sym behind) in
+    let keeps : KeepsDraft (map line_of (ended_from [] (read ++ input))) draft = subst (λ (ps : List (List ℕ)). KeepsDraft (map line_of ps) draft) (sym ended) (keeps_so_far read old draft r) in
+    subst (λ (l : List ℕ). IsReading (read ++ l) new draft) (sym all) (is_reading (read ++ input) new draft line keeps)
+
+-- the line that ends
+pub line_stands : (read old new input : List ℕ) (count : ℕ) (draft : Draft) → IsReading read old draft → (e : EndsLine old input count new) → StandsFor new (line_of (open_from [] read ++ e.text))
+line_stands read old new input count draft r e =
+    let is : new ≡ kept (open_from [] read ++ e.text) = e.now ∙ ap (λ (l : List ℕ). kept (l ++ e.text)) (line_so_far read old draft r) ∙ kept_more (open_from [] read) e.text in
+    subst (λ (b : List ℕ). StandsFor b (line_of (open_from [] read ++ e.text))) (sym is) (stands (open_from [] read ++ e.text))
+
+pub reading_ended : (read old new line input : List ℕ) (count : ℕ) (next : Draft) (e : EndsLine old input count new) → line ≡ [] → KeepsDraft (map line_of (ended_from [] read) ++ line_of (open_from [] read ++ e.text) ∷ []) next → IsReading (read ++ take count input) line next
+reading_ended read old new line input count next e is keeps =
+    let piece = e.text ++ 10 ∷ [] in
+    let behind : open_from [] (read ++ piece) ≡ [] = open-append [] read piece ∙ open_one (open_from [] read) e.text in
+    let ended : map line_of (ended_from [] (read ++ piece)) ≡ map line_of (ended_from [] read) ++ line_of (open_from [] read ++ e.text) ∷ [] =
+    ap (map line_of) (ended-append [] read piece ∙ ap (λ (l : List (List ℕ)). ended_from [] read ++ l) (ended_one (open_from [] read) e.text e.no_end))
+    ∙ map-append line_of (ended_from [] read) ((open_from [] read ++ e.text) ∷ []) in
+    subst (λ (l : List ℕ). IsReading (read ++ l) line next) (sym e.taken)
+    (is_reading (read ++ piece) line next (is ∙ ap kept (sym behind)) (subst (λ (ls : List (List ℕ)). KeepsDraft ls next) (sym ended) keeps))
+
+-- ---- the end of the input
+
+finishes_read : (read : List ℕ) (lines : List (List ℕ)) (result : Result Document Status) → AreLines read lines → Finishes lines result → IsRead result read
+finishes_read read lines (Ok document) cut f = record { lines = lines; cut = cut; whole = f }
+finishes_read read lines (Err (status.Refused code n)) cut f = record { lines = lines; cut = cut; means = f }
+finishes_read read lines (Err status.NoMemory) cut f = tt
+finishes_read read lines (Err status.Done) cut f = absurd f
+finishes_read read lines (Err status.PrintFault) cut f = absurd f
+finishes_read read lines (Err status.ReadFault) cut f = absurd f
+finishes_read read lines (Err status.InputTooLarge) cut f = absurd f
+finishes_read read lines (Err status.Usage) cut f = absurd f
+finishes_read read lines (Err status.DiskFault) cut f = absurd f
+finishes_read read lines (Err (status.Damaged area at)) cut f = absurd f
+
+kept_nothing : (bytes : List ℕ) → kept bytes ≡ [] → bytes ≡ []
+kept_nothing [] is = refl
+kept_nothing (b ∷ bytes) is = absurd (omega (arith, length-take 4098 (b ∷ bytes), ap length is))
+
+last_some : (bytes : List ℕ) → bytes ≢ [] → last_line bytes ≡ bytes ∷ []
+last_some [] other = absurd (other refl)
+last_some (b ∷ bytes) other = refl
+
+pub finished_whole : (read line : List ℕ) (draft : Draft) (result : Result Document Status) → length read ≤ 67108864 → IsReading read line draft → line ≡ []
+    → ((lines : List (List ℕ)) → length lines < 2 ^ 63 → KeepsDraft lines draft → Finishes lines result) → IsRead result read
+finished_whole read line draft result few r is finishes =
+    let nothing : open_from [] read ≡ [] = kept_nothing (open_from [] read) (sym (line_so_far read line draft r) ∙ is) in
+    let lines : lines_of read ≡ map line_of (ended_from [] read) = ap (λ (l : List ℕ). map line_of (ended_from [] read ++ last_line l)) nothing ∙ ap (map line_of) (append-nil (ended_from [] read)) in
+    finishes_read read (lines_of read) result (are_lines read)
+    (finishes (lines_of read) (omega (arith, few, few_lines read, ap length lines))
+    (subst (λ (ls : List (List ℕ)). KeepsDraft ls draft) (sym lines) (keeps_so_far read line draft r)))
+
+pub last_stands : (read line : List ℕ) (draft : Draft) → IsReading read line draft → StandsFor line (line_of (open_from [] read))
+last_stands read line draft r = subst (λ (b : List ℕ). StandsFor b (line_of (open_from [] read))) (sym (line_so_far read line draft r)) (stands (open_from [] read))
+
+pub finished_last : (read line : List ℕ) (draft next : Draft) (result : Result Document Status) → length read ≤ 67108864 → IsReading read line draft → line ≢ []
+    → KeepsDraft (map line_of (ended_from [] read) ++ line_of (open_from [] read) ∷ []) next
+    → ((lines : List (List ℕ)) → length lines < 2 ^ 63 → KeepsDraft lines next → Finishes lines result) → IsRead result read
+finished_last read line draft next result few r other keeps finishes =
+    let some : open_from [] read ≢ [] = λ is. other (line_so_far read line draft r ∙ ap kept is) in
+    let lines : lines_of read ≡ map line_of (ended_from [] read) ++ line_of (open_from [] read) ∷ [] =
+    ap (λ (l : List (List ℕ)). map line_of (ended_from [] read ++ l)) (last_some (open_from [] read) some) ∙ map-append line_of (ended_from [] read) (open_from [] read ∷ []) in
+    finishes_read read (lines_of read) result (are_lines read)
+    (finishes (lines_of read) (omega (arith, few, few_lines read, ap length lines, length-append (map line_of (ended_from [] read)) (line_of (open_from [] read) ∷ [])))
+    (subst (λ (ls : List (List ℕ)). KeepsDraft ls next) (sym lines) keeps))
+
+-- ---- the source
 
 -- so many bytes of the input were taken
-pub record Taken (input : List ℕ) (taken : ℕ) (left : Option (List ℕ)) : Type 0 where
+pub record Taken (input : List ℕ) (taken : ℕ) (left : Option (List ℕ)) (line : List ℕ) (draft : Draft) : Type 0 where
   pub read : List ℕ
   pub rest : List ℕ
   pub reads : Reads input left read rest
   pub count : length read ≡ taken
+  pub reading : IsReading read line draft
 
-pub taken_none : (input : List ℕ) (left : Option (List ℕ)) → left ≡ Some input → Taken input 0 left
-taken_none input left is = record { read = []; rest = input; reads = record { parts = refl; is_left = is }; count = refl }
+pub taken_none : (input : List ℕ) (left : Option (List ℕ)) (line : List ℕ) (draft : Draft) → left ≡ Some input → line ≡ [] → KeepsDraft [] draft → Taken input 0 left line draft
+taken_none input left line draft is empty keeps = record { read = []; rest = input; reads = record { parts = refl; is_left = is }; count = refl; reading = reading_none line draft empty keeps }
 
-module _ (input : List ℕ) (taken : ℕ) (left : Option (List ℕ)) (t : Taken input taken left) where
-  pub stopped : (ending : Status) (left' : Option (List ℕ)) → left' ≡ left → IsEarly ending → Ends ending t.read t.rest → HasStopped (Err ending) input left'
-  stopped ending left' same early ends = record { read = t.read; rest = t.rest; reads = record { parts = t.reads.parts; is_left = same ∙ t.reads.is_left }; stops = (early, ends) }
+module _ (input : List ℕ) (taken : ℕ) (left : Option (List ℕ)) (line : List ℕ) (draft : Draft) (t : Taken input taken left line draft) where
+  pub stopped : (ending : Status) (left' : Option (List ℕ)) → left' ≡ left → EndsEarly ending t.read t.rest → HasStopped (Err ending) input left'
+  stopped ending left' same ends = record { read = t.read; rest = t.rest; reads = record { parts = t.reads.parts; is_left = same ∙ t.reads.is_left }; stops = ends }
 
-  pub taken_more : (piece : List ℕ) (left' : Option (List ℕ)) → Takes left left' piece → Taken input (taken + length piece) left'
-  taken_more piece left' takes =
+  pub stopped_behind : (ending : Status) (piece : List ℕ) (left' : Option (List ℕ)) → Takes left left' piece → ((read rest : List ℕ) → length read ≡ taken + length piece → EndsEarly ending read rest) → HasStopped (Err ending) input left'
+  stopped_behind ending piece left' takes ends =
+      let to = takes.told t.rest t.reads.is_left in
+      record {
+        read = t.read ++ piece;
+        rest = to.0;
+        reads = record { parts = t.reads.parts ∙ ap (λ (l : List ℕ). t.read ++ l) to.2 ∙ sym (append_assoc t.read piece to.0); is_left = to.1 };
+        stops = ends (t.read ++ piece) to.0 (omega (arith, length-append t.read piece, t.count));
+      }
+
+  pub taken_more : (piece : List ℕ) (left' : Option (List ℕ)) (line' : List ℕ) (draft' : Draft) → Takes left left' piece
+      → ((read : List ℕ) → length read ≡ taken → IsReading read line draft → IsReading (read ++ piece) line' draft') → Taken input (taken + length piece) left' line' draft'
+  taken_more piece left' line' draft' takes reading =
       let to = takes.told t.rest t.reads.is_left in
       record {
         read = t.read ++ piece;
         rest = to.0;
         reads = record { parts = t.reads.parts ∙ ap (λ (l : List ℕ). t.read ++ l) to.2 ∙ sym (append_assoc t.read piece to.0); is_left = to.1 };
         count = omega (arith, length-append t.read piece, t.count);
+        reading = reading t.read t.count t.reading;
       }
 
   pub ended : (left' : Option (List ℕ)) (nothing : List ℕ) → nothing ≡ [] → Takes left left' nothing → AtEnd left → taken ≤ 67108864 → GaveEnd t.read t.rest × (left' ≡ Some t.rest)
@@ -37,9 +152,9 @@ module _ (input : List ℕ) (taken : ℕ) (left : Option (List ℕ)) (t : Taken 
       let same : to.0 ≡ t.rest = sym (to.2 ∙ ap (λ (l : List ℕ). l ++ to.0) none) in
       (record { all = end t.rest t.reads.is_left; within = omega (arith, t.count, within) }, to.1 ∙ ap Some same)
 
-ends_final : (ending : Status) (read rest : List ℕ) → IsFinal ending → GaveEnd read rest → IsEarly ending × Ends ending read rest
-ends_final status.NoMemory read rest is gave = (tt, gave.within)
-ends_final (status.Refused code line) read rest is gave = (tt, gave)
+ends_final : (ending : Status) (read rest : List ℕ) → IsRead (Err ending) read → GaveEnd read rest → EndsEarly ending read rest
+ends_final status.NoMemory read rest is gave = gave.within
+ends_final (status.Refused code line) read rest is gave = (gave, is)
 ends_final status.Done read rest is gave = absurd is
 ends_final status.Usage read rest is gave = absurd is
 ends_final status.ReadFault read rest is gave = absurd is
@@ -48,8 +163,8 @@ ends_final status.DiskFault read rest is gave = absurd is
 ends_final (status.Damaged area at) read rest is gave = absurd is
 ends_final status.InputTooLarge read rest is gave = absurd is
 
-pub stops_final : (result : Result Document Status) (read rest : List ℕ) → IfErr result IsFinal → GaveEnd read rest → Stops result read rest
-stops_final (Ok document) read rest is gave = gave
+pub stops_final : (result : Result Document Status) (read rest : List ℕ) → IsRead result read → GaveEnd read rest → Stops result read rest
+stops_final (Ok document) read rest is gave = (gave, is)
 stops_final (Err ending) read rest is gave = ends_final ending read rest is gave
 
 -- a read takes no more than it has room for
@@ -63,10 +178,40 @@ length-piece n buffer le = omega (arith, length-take n buffer)
 pub length-filled : (room : ℕ) (front whole : List ℕ) → length front ≡ length (take room whole) → room ≤ length whole → length (front ++ drop room whole) ≡ length whole
 length-filled room front whole same le = omega (arith, same, le, length-append front (drop room whole), length-drop room whole, length-take room whole)
 
-becomes : (ending e : Status) (read rest : List ℕ) → ending ≡ e → Ends e read rest → Ends ending read rest
-becomes ending e read rest is ends = subst (λ (s : Status). Ends s read rest) (sym is) ends
+-- ---- the endings of a call
 
 -- a reply ends after the whole input
-pub ends_replied : (ending : Status) (read rest : List ℕ) → (ending ≡ status.Done) ⊎ (ending ≡ status.PrintFault) ⊎ (ending ≡ status.NoMemory) → GaveEnd read rest → Ends ending read rest
-ends_replied ending read rest only gave =
-    ⊎_elim (λ is. becomes ending status.Done read rest is gave) (λ other. ⊎_elim (λ is. becomes ending status.PrintFault read rest is gave) (λ is. becomes ending status.NoMemory read rest is gave.within) other) only
+pub ends_replied : (ending : Status) (read rest : List ℕ) (old new : Option (List ℕ)) → GaveEnd read rest → Replies ending read old new → Ends ending read rest old new
+ends_replied status.Done read rest old new gave r = (gave, r)
+ends_replied status.PrintFault read rest old new gave r = (gave, r)
+ends_replied status.NoMemory read rest old new gave r = (gave.within, r)
+ends_replied (status.Refused code line) read rest old new gave r = absurd r
+ends_replied status.InputTooLarge read rest old new gave r = absurd r
+ends_replied status.ReadFault read rest old new gave r = absurd r
+ends_replied status.Usage read rest old new gave r = absurd r
+ends_replied status.DiskFault read rest old new gave r = absurd r
+ends_replied (status.Damaged area at) read rest old new gave r = absurd r
+
+-- before a reply nothing is printed
+pub ends_early : (ending : Status) (read rest : List ℕ) (old new : Option (List ℕ)) → EndsEarly ending read rest → new ≡ old → Ends ending read rest old new
+ends_early status.NoMemory read rest old new ends same = (ends, same)
+ends_early (status.Refused code line) read rest old new ends same = (ends, same)
+ends_early status.InputTooLarge read rest old new ends same = (ends, same)
+ends_early status.ReadFault read rest old new ends same = (ends, same)
+ends_early status.Done read rest old new ends same = absurd ends
+ends_early status.PrintFault read rest old new ends same = absurd ends
+ends_early status.Usage read rest old new ends same = absurd ends
+ends_early status.DiskFault read rest old new ends same = absurd ends
+ends_early (status.Damaged area at) read rest old new ends same = absurd ends
+
+-- ---- a piece, part by part
+
+pub split_more : (piece front rest : List ℕ) (count : ℕ) → piece ≡ front ++ rest → piece ≡ (front ++ take count rest) ++ take (length rest - count) (drop count rest)
+split_more piece front rest count is =
+    let more : take (length rest - count) (drop count rest) ≡ drop count rest = take_all (length rest - count) (drop count rest) (omega (arith, length-drop count rest)) in
+    is ∙ ap (λ (l : List ℕ). front ++ l) (sym (ap (λ (l : List ℕ). take count rest ++ l) more ∙ take-append-drop count rest))
+    ∙ sym (append_assoc front (take count rest) (take (length rest - count) (drop count rest)))
+
+pub nothing_left : (piece front rest : List ℕ) → piece ≡ front ++ rest → (length rest == 0) ≡ true → front ≡ piece
+nothing_left piece front [] is empty = sym (is ∙ append-nil front)
+nothing_left piece front (b ∷ rest) is empty = absurd (omega (arith, eqb-true (length (b ∷ rest)) 0 empty))

@@ -1,5 +1,10 @@
 pub mod LineLemmas
 pub mod FormRules
 pub mod FactLemmas
+pub mod OntologyLemmas
+pub mod DraftLemmas
+pub mod LineTaking
+pub mod AnswerLemmas
 pub mod InputLemmas
+pub mod DocumentLemmas
 pub mod CommandLemmas

@@ -5,4 +5,6 @@ pub mod Forms
 pub mod FormReading
 pub mod Document
 pub mod Facts
+pub mod Text
+pub mod Drafting
 pub mod Run

@@ -1,5 +1,6 @@
 //! The answers to a document's query.
-ghost use Rattle.std.specs.Prelude.{◌≡◌, ◌<◌};
+ghost use Rattle.std.specs.Prelude.{◌≡◌, ◌<◌, ◌∷◌, [], IfOk, List, ℕ};
+ghost use Rattle.obda_run.specs.Drafting.{IsWhole, HasReply};
 
 use crate::document::Document;
 use dl_base::{Basic, Key, Keys, Name};
@@ -17,6 +18,7 @@ pub fn answers<L: Ledger>(
     requires name { blank.name ≡ L.name }
     requires parts { blank.parts ≡ L.parts }
     requires some { 0 < L.parts }
+    ensures { (lines : List (List ℕ)) → IsWhole lines document.now → IfOk result (HasReply lines document.now.ontology) }
 {
     let rules = Rules::new(alloc, &document.ontology)?;
     let mut scratch = rules.scratch(alloc)?;
@@ -32,7 +34,9 @@ pub fn answers<L: Ledger>(
 }
 
 /// The key of one name.
-fn one_name(alloc: Global, name: &Name) -> Result<Key, AllocError> {
+fn one_name(alloc: Global, name: &Name) -> Result<Key, AllocError>
+    ensures { IfOk result (λ key. key ≡ name.now ∷ []) }
+{
     let mut key = Items::new(alloc);
     key.push(name.copy(alloc)?)?;
     Ok(key)

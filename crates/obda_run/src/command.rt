@@ -1,8 +1,12 @@
 //! The top call.
-ghost use Rattle.std.specs.Prelude.{◌≡◌, ◌≢◌, ◌≤◌, ◌⊎◌, ◌↔◌, ℕ, IsTrue, codes, map, string_bytes};
+ghost use Rattle.std.specs.Prelude.{◌≡◌, ◌≢◌, ◌≤◌, ◌⊎◌, ◌↔◌, ℕ, List, IsTrue, codes, length, map, string_bytes};
 ghost use Rattle.std.specs.Option.{ForSome};
 ghost use Rattle.host_io.specs.Causes.{Rose};
-ghost use Rattle.obda_run.specs.Run.{IsAnswer, HasRead};
+ghost use Rattle.dl_base.specs.Ontology.{Terminology};
+ghost use Rattle.dl_base.specs.Query.{Question};
+ghost use Rattle.dl_base.specs.declared.row.NamedRow.{NamedRow};
+ghost use Rattle.obda_run.specs.Document.{IsDocument, Refused, Asks};
+ghost use Rattle.obda_run.specs.Run.{IsAnswer, IsDocumentOf, Ran, Replies};
 
 use crate::answers::answers;
 use crate::document::Document;
@@ -37,8 +41,17 @@ pub fn serve<S: Source, H: Host>(
     // Nothing is printed but a reply.
     ensures silent { result ≢ Status.Done → result ≢ Status.PrintFault → H.printed host.new ≡ H.printed host.old }
 
-    // Where the source tells its bytes: how many were read, and that they were all.
-    ensures read { result ≢ Status.Usage → ForSome (S.left source.old) (λ input. HasRead result input (S.left source.new)) }
+    // Where the source tells its bytes: they are a document, and the reply is its certain answers; or how the run ends.
+    ensures run { result ≢ Status.Usage → ForSome (S.left source.old) (λ input.
+        Ran result input (S.left source.new) (H.printed host.old) (H.printed host.new)) }
+
+    // A document with an offending line is refused, and one without is answered, where no fault comes and memory is there.
+    ensures refuses { (code line : ℕ) → result ≢ Status.Usage → ForSome (S.left source.old) (λ input.
+        length input ≤ 67108864 → IsDocument input (Refused code line)
+        → (result ≡ Status.Refused code line) ⊎ (result ≡ Status.ReadFault) ⊎ (result ≡ Status.NoMemory)) }
+    ensures answers { (o : Terminology) (rows : List NamedRow) (q : Question) → result ≢ Status.Usage → ForSome (S.left source.old) (λ input.
+        length input ≤ 67108864 → IsDocument input (Asks o rows q)
+        → (result ≡ Status.Done) ⊎ (result ≡ Status.ReadFault) ⊎ (result ≡ Status.PrintFault) ⊎ (result ≡ Status.NoMemory)) }
 {
     if !is_answer(words) {
         return Status::Usage;
@@ -72,6 +85,7 @@ fn reply<H: Host>(alloc: Global, host: &mut H, document: &Document) -> Status
     ensures fault { result ≡ Status.PrintFault → Rose (H.print_faults host.old) (H.print_faults host.new) }
     ensures later { H.print_faults host.old ≤ H.print_faults host.new }
     ensures silent { result ≡ Status.NoMemory → H.printed host.new ≡ H.printed host.old }
+    ensures replies { (read : List ℕ) → IsDocumentOf read document.now → Replies result read (H.printed host.old) (H.printed host.new) }
 {
     let Ok(keys) = answers::<Brand>(alloc, document, Blank::new(1)) else {
         return Status::NoMemory;

@@ -1,9 +1,13 @@
 //! A document, as far as its lines are read.
-ghost use Rattle.std.specs.Prelude.{◌≡◌, ◌<◌, ◌∷◌, [], IfOk, IfErr};
-ghost use Rattle.std.specs.Option.{ForSome};
-ghost use Rattle.obda_run.specs.Document.{code_of, sub_class};
-ghost use Rattle.obda_run.specs.Facts.{IsFound};
-ghost use Rattle.obda_run.specs.Run.{IsRefusal};
+ghost use Rattle.std.specs.Prelude.{◌≡◌, ◌<◌, ◌≤◌, ◌^◌, ◌++◌, ◌∷◌, [], ◌↔◌, IsTrue, IfOk, IfErr, MatchOption, List, ℕ, length};
+ghost use Rattle.host_io.specs.Causes.{raised};
+ghost use Rattle.obda_run.specs.Lines.{line_of};
+ghost use Rattle.obda_run.specs.Feeding.{StandsFor};
+ghost use Rattle.obda_run.specs.Forms.{IsDocLine};
+ghost use Rattle.obda_run.specs.Document.{sub_class, code_of};
+ghost use Rattle.obda_run.specs.Drafting.{KeepsDraft, KeepsPartial, NextLine, Finishes};
+ghost use Rattle.obda_run.specs.Run.{IsFinal};
+ghost use Rattle.obda_run.specs.declared.forms.DocLine.{DocLine as Line};
 
 use crate::facts::Facts;
 use crate::forms::{DocLine, read_line};
@@ -67,7 +71,9 @@ pub struct Document {
 
 impl Draft {
     /// The draft of no lines.
-    pub fn new(alloc: Global) -> Result<Draft, AllocError> {
+    pub fn new(alloc: Global) -> Result<Draft, AllocError>
+        ensures { IfOk result (KeepsDraft []) }
+    {
         let ontology = Ontology::new(alloc)?;
         Ok(Draft::Reading(Partial {
             ontology,
@@ -78,7 +84,10 @@ impl Draft {
     }
 
     /// The draft with one more line. Lines behind a refused one change nothing.
-    pub fn take_line(self, alloc: Global, line: &OpenLine) -> Result<Draft, AllocError> {
+    pub fn take_line(self, alloc: Global, line: &OpenLine) -> Result<Draft, AllocError>
+        ensures { (lines : List (List ℕ)) (text : List ℕ) → length lines < 2 ^ 63 → StandsFor line.now text → KeepsDraft lines self
+            → IfOk result (KeepsDraft (lines ++ text ∷ [])) }
+    {
         match self {
             Draft::Refused { reason, line } => Ok(Draft::Refused { reason, line }),
             Draft::Reading(partial) => match said_by(alloc, line)? {
@@ -90,7 +99,8 @@ impl Draft {
 
     /// The document, where the lines are all of its lines.
     pub fn finish(self) -> Result<Document, Status>
-        ensures { IfErr result IsRefusal }
+        ensures ending { IfErr result IsFinal }
+        ensures whole { (lines : List (List ℕ)) → length lines < 2 ^ 63 → KeepsDraft lines self → Finishes lines result }
     {
         match self {
             Draft::Refused { reason, line } => Err(Status::Refused {
@@ -121,7 +131,11 @@ impl Draft {
 }
 
 /// What a line says, or `None` where it is too long or no line of a form that is built.
-fn said_by(alloc: Global, line: &OpenLine) -> Result<Option<DocLine>, AllocError> {
+fn said_by(alloc: Global, line: &OpenLine) -> Result<Option<DocLine>, AllocError>
+    ensures { IfOk result (λ said. MatchOption said
+        (length (line_of line.now) ≤ 4096 → (d : Line) → IsDocLine (line_of line.now) d → ⊥)
+        (λ d. (length (line_of line.now) ≤ 4096) × IsDocLine (line_of line.now) d)) }
+{
     match line.line() {
         Some(text) => read_line(alloc, text),
         None => Ok(None),
@@ -130,7 +144,9 @@ fn said_by(alloc: Global, line: &OpenLine) -> Result<Option<DocLine>, AllocError
 
 impl Partial {
     /// The draft whose next line is refused.
-    fn refused(self, reason: Reason) -> Draft {
+    fn refused(self, reason: Reason) -> Draft
+        ensures { result ≡ Draft.Refused reason (raised self.lines) }
+    {
         Draft::Refused {
             reason,
             line: self.lines.saturating_add(1),
@@ -138,7 +154,9 @@ impl Partial {
     }
 
     /// The draft with one more line that says this.
-    fn take(self, alloc: Global, said: DocLine) -> Result<Draft, AllocError> {
+    fn take(self, alloc: Global, said: DocLine) -> Result<Draft, AllocError>
+        ensures { (lines : List (List ℕ)) (text : List ℕ) → NextLine lines text said self → IfOk result (KeepsDraft (lines ++ text ∷ [])) }
+    {
         match said {
             DocLine::Blank => Ok(self.goes_on()),
             DocLine::SubClass { sub, sup } => self.take_axiom(alloc, sub, sup),
@@ -146,12 +164,14 @@ impl Partial {
                 concept,
                 individual,
             } => self.take_fact(concept, individual),
-            DocLine::Ask { variable, concept } => Ok(self.take_query(variable, concept)),
+            DocLine::Ask { concept, .. } => Ok(self.take_query(concept)),
         }
     }
 
     /// The draft with one more line that changes nothing else.
-    fn goes_on(self) -> Draft {
+    fn goes_on(self) -> Draft
+        ensures { result ≡ Draft.Reading (record self { lines = raised self.lines }) }
+    {
         let Partial {
             ontology,
             facts,
@@ -166,8 +186,17 @@ impl Partial {
         })
     }
 
+    /// Whether an axiom may stand here: no fact and no query stands before it.
+    fn takes_axioms(&self) -> bool
+        ensures { IsTrue result ↔ ((self.now.facts.rows ≡ 0) × (self.now.asked ≡ None)) }
+    {
+        self.facts.is_empty() && self.asked.is_none()
+    }
+
     /// The draft with one more axiom.
-    fn take_axiom(self, alloc: Global, sub: Name, sup: Name) -> Result<Draft, AllocError> {
+    fn take_axiom(self, alloc: Global, sub: Name, sup: Name) -> Result<Draft, AllocError>
+        ensures { (lines : List (List ℕ)) (text : List ℕ) → NextLine lines text (DocLine.SubClass sub sup) self → IfOk result (KeepsDraft (lines ++ text ∷ [])) }
+    {
         let axiom = sub_class(alloc, sub, sup)?;
         let Partial {
             ontology,
@@ -183,7 +212,7 @@ impl Partial {
                     asked,
                     lines,
                 };
-                if partial.facts.is_empty() && partial.asked.is_none() {
+                if partial.takes_axioms() {
                     Ok(partial.goes_on())
                 } else {
                     Ok(partial.refused(Reason::OutOfOrder))
@@ -198,8 +227,10 @@ impl Partial {
     }
 
     /// The draft with one more fact.
-    fn take_fact(mut self, concept: Name, individual: Name) -> Result<Draft, AllocError> {
-        let place = place_in(&self.ontology, &concept);
+    fn take_fact(mut self, concept: Name, individual: Name) -> Result<Draft, AllocError>
+        ensures { (lines : List (List ℕ)) (text : List ℕ) → NextLine lines text (DocLine.Fact concept individual) self → IfOk result (KeepsDraft (lines ++ text ∷ [])) }
+    {
+        let place = self.ontology.concepts().find(concept.bytes());
         if self.facts.is_full(&individual, place) {
             return Ok(self.refused(Reason::NotBuilt));
         }
@@ -216,12 +247,13 @@ impl Partial {
     }
 
     /// The draft with the query.
-    fn take_query(mut self, variable: Name, concept: Name) -> Draft {
-        drop(variable);
+    fn take_query(mut self, concept: Name) -> Draft
+        ensures { (lines : List (List ℕ)) (text variable : List ℕ) → NextLine lines text (DocLine.Ask variable concept) self → KeepsDraft (lines ++ text ∷ []) result }
+    {
         if self.asked.is_some() {
             return self.refused(Reason::OutOfOrder);
         }
-        match place_in(&self.ontology, &concept) {
+        match self.ontology.concepts().find(concept.bytes()) {
             None => self.refused(Reason::UnknownConcept),
             Some(place) => {
                 self.asked = Some(place);
@@ -229,15 +261,6 @@ impl Partial {
             }
         }
     }
-}
-
-/// The place of a concept name in the ontology, if it has it.
-#[tactic(auto, using(std::proofs::lemmas::Option::slice_get_within))]
-fn place_in(ontology: &Ontology, concept: &Name) -> Option<u32>
-    ensures found { IsFound ontology.now.concepts concept.now result }
-    ensures below { ForSome result (λ place. place < 512) }
-{
-    ontology.concepts().find(concept.bytes())
 }
 
 /// The axiom that whatever is in the one concept is in the other.

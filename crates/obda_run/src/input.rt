@@ -1,8 +1,9 @@
 //! Reading a document from a source, to its end.
-ghost use Rattle.std.specs.Prelude.{◌≡◌, ◌<◌, ◌≤◌, ◌+◌, IfErr, IsErrOf, length};
+ghost use Rattle.std.specs.Prelude.{◌≡◌, ◌<◌, ◌≤◌, ◌+◌, ◌^◌, ◌++◌, ℕ, List, [], IfOk, IfErr, IsErrOf, length, take};
 ghost use Rattle.std.specs.Option.{ForSome};
 ghost use Rattle.host_io.specs.Causes.{Rose};
-ghost use Rattle.obda_run.specs.Run.{HasStopped, IsEarly, IsFinal};
+ghost use Rattle.obda_run.specs.Drafting.{KeepsDraft};
+ghost use Rattle.obda_run.specs.Run.{HasStopped, IsEarly, IsFinal, IsReading, IsRead};
 
 use crate::document::{Document, Draft};
 use crate::lines::OpenLine;
@@ -42,7 +43,9 @@ fn read_lines<S: Source>(
     mut line: OpenLine,
     buffer: &mut [u8],
 ) -> Result<Document, Status>
-    requires { length buffer.old ≡ 65536 }
+    requires draft { KeepsDraft [] draft }
+    requires line { line ≡ [] }
+    requires buffer { length buffer.old ≡ 65536 }
     ensures later { S.read_faults source.old ≤ S.read_faults source.new }
     ensures fault { IsErrOf result Status.ReadFault → Rose (S.read_faults source.old) (S.read_faults source.new) }
     ensures early { IfErr result IsEarly }
@@ -92,28 +95,50 @@ fn take_piece(
     mut draft: Draft,
     line: &mut OpenLine,
     piece: &[u8],
-) -> Result<Draft, AllocError> {
+) -> Result<Draft, AllocError>
+    ensures { (read : List ℕ) → length read + length piece.now < 2 ^ 63 → IsReading read line.old draft
+        → IfOk result (IsReading (read ++ piece.now) line.new) }
+{
     let mut rest = piece;
     while !rest.is_empty() {
-        let (count, ended) = line.feed(rest);
+        let (next, count) = take_part(alloc, draft, line, rest)?;
+        draft = next;
         rest = &rest[count..];
-        if ended {
-            draft = draft.take_line(alloc, line)?;
-            line.clear();
-        }
     }
     Ok(draft)
 }
 
+/// Takes the bytes through the first line end, or all, and answers how many.
+fn take_part(
+    alloc: Global,
+    draft: Draft,
+    line: &mut OpenLine,
+    bytes: &[u8],
+) -> Result<(Draft, usize), AllocError>
+    ensures within { IfOk result (λ taken. taken.1 ≤ length bytes.now) }
+    ensures some { 0 < length bytes.now → IfOk result (λ taken. 0 < taken.1) }
+    ensures reading { (read : List ℕ) → length read < 2 ^ 63 → IsReading read line.old draft
+        → IfOk result (λ taken. IsReading (read ++ take taken.1 bytes.now) line.new taken.0) }
+{
+    let (count, ended) = line.feed(bytes);
+    if !ended {
+        return Ok((draft, count));
+    }
+    let next = draft.take_line(alloc, line)?;
+    line.clear();
+    Ok((next, count))
+}
+
 /// The document, where the input has ended.
 fn finish(alloc: Global, draft: Draft, line: &OpenLine) -> Result<Document, Status>
-    ensures { IfErr result IsFinal }
+    ensures ending { IfErr result IsFinal }
+    ensures read { (read : List ℕ) → length read ≤ 67108864 → IsReading read line.now draft → IsRead result read }
 {
     if line.is_empty() {
         return draft.finish();
     }
     match draft.take_line(alloc, line) {
-        Ok(draft) => draft.finish(),
+        Ok(whole) => whole.finish(),
         Err(_) => Err(Status::NoMemory),
     }
 }

@@ -1,10 +1,14 @@
 //! The text of a reply.
+ghost use Rattle.std.specs.Prelude.{◌≡◌, ◌++◌, IfOk, OnOk};
+ghost use Rattle.obda_run.specs.Text.{answers_text, key_line};
 
 use dl_base::Key;
 use std::alloc::{AllocError, Global};
 
 /// A line for each key, and one with their number.
-pub fn answers_text(alloc: Global, keys: &[Key]) -> Result<Vec<u8>, AllocError> {
+pub fn answers_text(alloc: Global, keys: &[Key]) -> Result<Vec<u8>, AllocError>
+    ensures { IfOk result (λ text. text.items ≡ answers_text keys.now) }
+{
     let mut text = Vec::new(alloc);
     for key in keys {
         append_key(key, &mut text)?;
@@ -16,7 +20,9 @@ pub fn answers_text(alloc: Global, keys: &[Key]) -> Result<Vec<u8>, AllocError> 
 }
 
 /// The line of a key: `answer`, and each name behind a space.
-fn append_key(key: &Key, text: &mut Vec<u8>) -> Result<(), AllocError> {
+fn append_key(key: &Key, text: &mut Vec<u8>) -> Result<(), AllocError>
+    ensures { OnOk result (text.new.items ≡ text.old.items ++ key_line key.now) }
+{
     text.extend_from_slice(b"answer")?;
     for name in key.items() {
         text.push(b' ')?;

@@ -8,7 +8,7 @@ invariant-pieces g l =
     record {
       taken : l.taken ≤ 67108864;
       room : length l.buffer ≡ 65536;
-      reading : (input : List ℕ) → s.left l.fn.source ≡ Some input → Taken input l.taken (s.left l.source);
+      reading : (input : List ℕ) → s.left l.fn.source ≡ Some input → Taken input l.taken (s.left l.source) l.line l.draft;
       later : s.read_faults l.fn.source ≤ s.read_faults l.source;
     }
 

@@ -1,0 +1,9 @@
+use Rattle.obda_run.proofs.OntologyLemmas.{ontology_none, facts_none}
+use Rattle.obda_run.proofs.LineTaking.{kept_none}
+use Rattle.obda_run.proofs.document.Draft.new.Goals as goal
+
+pub returns : goal.returns
+returns c =
+    let o = c.in_ok-ontology.ontology in
+    let facts = c.new-2.result in
+    kept_none o facts (ontology_none o c.in_ok-ontology.ensures) (facts_none o facts c.new-2.ensures.held c.new-2.ensures.rows)
