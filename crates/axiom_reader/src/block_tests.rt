@@ -50,40 +50,66 @@ fn lines_are_counted_from_one(rt: HostRuntime) -> Result<(), Fail> {
     Ok(())
 }
 
+/// An axiom with a body of nine members.
+const NINE: &[u8] = b"Disjoint(And(A B C D) And(A B C D E))";
+
+/// The lines of a block, the first of them that offends, and its cause.
+#[derive(Clone, Copy)]
+struct Offence<'a> {
+    lines: &'a [Option<&'a [u8]>],
+    line: u64,
+    cause: BlockCause,
+}
+
+/// The first block that comes to something else, whether it is ended or cut off.
+fn has_other_offence(alloc: Global, table: &[Offence<'_>]) -> Result<Option<usize>, AllocError> {
+    for (i, row) in table.iter().enumerate() {
+        for ended in [true, false] {
+            match block(alloc, row.lines, ended)? {
+                Ok(_) => return Ok(Some(i)),
+                Err(error) => {
+                    if error.line != row.line || error.cause != row.cause {
+                        return Ok(Some(i));
+                    }
+                }
+            }
+        }
+    }
+    Ok(None)
+}
+
+fn at<'a>(line: u64, cause: BlockCause, lines: &'a [Option<&'a [u8]>]) -> Offence<'a> {
+    Offence { lines, line, cause }
+}
+
 #[test]
 fn the_first_line_that_offends(rt: HostRuntime) -> Result<(), Fail> {
-    let nine = b"Disjoint(And(A B C D) And(A B C D E))".as_slice();
-    let table: [([Option<&[u8]>; 3], usize, BlockCause); 7] = [
-        (
-            [Some(b"Class(A)"), Some(b"Class(A) B"), None],
+    let table = [
+        at(
             2,
             BlockCause::Syntax,
+            &[Some(b"Class(A)"), Some(b"Class(A) B"), None],
         ),
-        ([Some(b"#"), None, Some(b"Class")], 2, BlockCause::Length),
-        (
-            [Some(b"Class(A)"), Some(b""), Some(nine)],
+        at(2, BlockCause::Length, &[Some(b"#"), None, Some(b"Class")]),
+        at(
             3,
             BlockCause::Limit,
+            &[Some(b"Class(A)"), Some(b""), Some(NINE)],
         ),
-        ([Some(nine), Some(b"x"), None], 1, BlockCause::Limit),
-        ([None, None, None], 1, BlockCause::Length),
-        (
-            [Some(b" "), Some(b"\t#"), Some(b"- #")],
+        at(1, BlockCause::Limit, &[Some(NINE), Some(b"x"), None]),
+        at(1, BlockCause::Length, &[None, None]),
+        at(
             3,
             BlockCause::Syntax,
+            &[Some(b" "), Some(b"\t#"), Some(b"- #")],
         ),
-        (
-            [Some(b"Class(A) # no comment"), Some(b"x"), None],
+        at(
             1,
             BlockCause::Syntax,
+            &[Some(b"Class(A) # no comment"), None],
         ),
     ];
-    for (lines, line, cause) in table {
-        let found = block(rt.alloc(), &lines, true)?;
-        assert_eq!(rt; outcome(&found), (line, 0, 0, Some(cause)));
-        let found = block(rt.alloc(), &lines, false)?;
-        assert_eq!(rt; outcome(&found), (line, 0, 0, Some(cause)));
-    }
+    assert_eq!(rt; has_other_offence(rt.alloc(), &table)?, None);
     Ok(())
 }
 
