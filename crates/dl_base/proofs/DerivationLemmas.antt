@@ -1,5 +1,5 @@
 -- Laws of derivation. Later proofs cite these and go by no induction on derivations.
-use Rattle.std.proofs.Common.{◌≡◌, ◌<◌, ℕ, zero, suc, List, [], ◌∷◌, Contains, All, arith}
+use Rattle.std.proofs.Common.{◌≡◌, zero, suc, List, [], ◌∷◌, Contains, All, arith}
 use Rattle.std.specs.List.{AllByRecursion}
 use Rattle.dl_base.specs.Derivation.{Derives, DerivesAll, leaf, node, none, each}
 use Rattle.dl_base.specs.declared.concept.Basic.{Basic}

@@ -1,8 +1,8 @@
 -- The small bases of the laws.
-use Rattle.std.proofs.Common.{◌≡◌, ℕ, zero, suc, ◌<◌, List, [], ◌∷◌, Contains, All, map, refl, sym, subst, ap, codes, Some, arith, Bool, true, false, if◌then◌else◌, inl, inr}
+use Rattle.std.proofs.Common.{◌≡◌, ℕ, zero, suc, List, [], ◌∷◌, Contains, All, map, refl, sym, subst, ap, codes, arith, Bool, true, false, if◌then◌else◌, inl, inr}
 use Rattle.std.specs.Str.{bytes_eq}
 use Rattle.dl_base.specs.Laws.{AnnIsStaff, staff, ann_is_a_professor, who_is_staff, WitnessServes, successors}
-use Rattle.dl_base.specs.Derivation.{Derives, leaf, node, none, each}
+use Rattle.dl_base.specs.Derivation.{leaf, node, none, each}
 use Rattle.dl_base.specs.Unfolding.{Element, Named, Next, Exists, DerivedAt}
 use Rattle.dl_base.specs.Rows.{IsIndividual, Names}
 use Rattle.dl_base.specs.Answers.{Holds, IsCertain, key_cmp}
@@ -16,7 +16,6 @@ use Rattle.dl_base.specs.declared.row.NamedRow.TheVariants as row
 use Rattle.dl_base.specs.declared.query.Term.{Term}
 use Rattle.dl_base.specs.declared.query.Term.TheVariants as term
 use Rattle.dl_base.specs.declared.query.Atom.{Atom}
-use Rattle.dl_base.specs.declared.query.Atom.TheVariants as atom
 
 -- the one item of a list
 pub only_item : {X : Type 0} (x t : X) → Contains (x ∷ []) t → t ≡ x

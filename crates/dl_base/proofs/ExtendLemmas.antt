@@ -1,5 +1,5 @@
 -- laws of what an axiom adds
-use Rattle.std.proofs.Common.{◌≡◌, ◌≢◌, ℕ, zero, suc, ◌+◌, ◌-◌, ◌<◌, ◌≤◌, ◌⊎◌, inl, inr, Bool, true, false, List, [], ◌∷◌, ◌++◌, length, get_or, take, slice_get, Some, Err, All, AllPairs, Contains, fold, refl, sym, ◌∙◌, ap, subst, arith, true≢false, if◌then◌else◌, append_assoc, length-append, ◌||◌}
+use Rattle.std.proofs.Common.{◌≡◌, ◌≢◌, ℕ, zero, suc, ◌+◌, ◌-◌, ◌<◌, ◌≤◌, Bool, true, false, List, [], ◌∷◌, ◌++◌, length, get_or, take, Err, All, AllPairs, Contains, refl, sym, ◌∙◌, ap, subst, arith, true≢false, if◌then◌else◌, append_assoc, length-append, ◌||◌}
 use Rattle.std.specs.List.{list_any, AllZip}
 use Rattle.std.specs.Str.{bytes_eq}
 use Rattle.std.proofs.lemmas.Slice.Eq.{bytes_eq-Decides}

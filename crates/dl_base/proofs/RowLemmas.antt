@@ -1,5 +1,5 @@
 -- Laws of rows: their order, and the strictly rising lists of what is asserted.
-use Rattle.std.proofs.Common.{◌≡◌, ℕ, zero, suc, ◌+◌, ◌<◌, ◌⊎◌, inl, inr, List, [], ◌∷◌, ◌++◌, length, Contains, refl, sym, ◌∙◌, ap, subst, arith, Bool, true, false}
+use Rattle.std.proofs.Common.{◌≡◌, ℕ, suc, ◌⊎◌, inl, inr, List, [], ◌∷◌, ◌++◌, Contains, refl, sym, ◌∙◌, ap, subst, arith}
 use Rattle.std.specs.Cmp.{IsTotalOrder}
 use Rattle.std.specs.Cmp.Lexicographic.{slice_cmp}
 use Rattle.std.specs.List.Sorted.{IsStrictlySortedBy}
@@ -9,12 +9,12 @@ use Rattle.std.specs.Ordering.{ordering_then, nat_cmp, on, then_cmp}
 use Rattle.std.proofs.lemmas.Cmp.{nat_cmp_total, nat_list_cmp_total, lists_total, on_total, then_total}
 use Rattle.std.proofs.lemmas.List.Elements.{Contains-append_left, Contains-push}
 use Rattle.dl_base.specs.Ontology.{Terminology}
-use Rattle.dl_base.specs.Rows.{name_cmp, row_cmp, row_of, AreRowsOf, AreIndividuals, IsIndividual, Names, Held, HasRow, HasConceptRow}
+use Rattle.dl_base.specs.Rows.{name_cmp, row_cmp, row_of, AreRowsOf, AreIndividuals, IsIndividual, Held}
 use Rattle.dl_base.specs.declared.concept.Basic.{Basic}
 use Rattle.dl_base.specs.declared.concept.Basic.TheVariants as basic
 use Rattle.dl_base.specs.declared.row.NamedRow.{NamedRow}
 use Rattle.dl_base.specs.declared.row.NamedRow.TheVariants as row
-use Rattle.dl_base.proofs.RisingLemmas.{nat_same, slice_same, same_rising, placed, placed_rises, placed_adds, length-placed, contains_cases, Adds}
+use Rattle.dl_base.proofs.RisingLemmas.{nat_same, slice_same, same_rising, placed, placed_rises, placed_adds, contains_cases}
 
 -- concept rows come first
 form_of : NamedRow → ℕ
@@ -86,7 +86,7 @@ rows_once asserted xs ys a b = same_rising row_cmp row_total row_same xs ys a.ri
 pub individuals_once : (rows : List NamedRow) (xs ys : List (List ℕ)) → AreIndividuals rows xs → AreIndividuals rows ys → xs ≡ ys
 individuals_once rows xs ys a b = same_rising name_cmp name_total name_same xs ys a.rising b.rising (λ n c. b.each n (a.only n c)) (λ n c. a.each n (b.only n c))
 
-contains_cut : {X : Type 0} (xs : List X) (x z : X) → Contains (xs ++ x ∷ []) z → (z ≡ x) ⊎ Contains xs z
+pub contains_cut : {X : Type 0} (xs : List X) (x z : X) → Contains (xs ++ x ∷ []) z → (z ≡ x) ⊎ Contains xs z
 contains_cut [] x z c = elim (contains_cases x [] z c) [ inl e ↦ inl e | inr d ↦ inr d ]
 contains_cut (y ∷ ys) x z c = elim (contains_cases y (ys ++ x ∷ []) z c) [
   | inl e ↦ inr (0, omega arith, sym e)

@@ -1,6 +1,5 @@
 -- Laws of the definitions, and small bases that show what they say.
 use Rattle.std.specs.Prelude.{◌≡◌, ℕ, List, [], ◌∷◌, codes, Contains, false}
-use Rattle.std.specs.List.{AllByRecursion}
 use Rattle.dl_base.specs.Ontology.{Terminology}
 use Rattle.dl_base.specs.Derivation.{Derives}
 use Rattle.dl_base.specs.Query.{Question}

@@ -1,4 +1,4 @@
-use Rattle.std.proofs.Common.{◌≡◌, ◌<◌, ◌+◌, ℕ, List, length, take, arith, ap}
+use Rattle.std.proofs.Common.{◌≡◌, ◌+◌, length, take, arith, ap}
 use Rattle.dl_base.specs.Axiom.{with_names}
 use Rattle.dl_base.proofs.ExtendLemmas.{book_more, names_too_many}
 use Rattle.dl_base.proofs.ontology.add_names.Goals as goal

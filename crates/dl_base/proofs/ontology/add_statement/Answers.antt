@@ -1,4 +1,4 @@
-use Rattle.std.proofs.Common.{◌≡◌, ◌∙◌, sym, arith, Contains, subst, List, ℕ}
+use Rattle.std.proofs.Common.{sym, Contains, subst, List, ℕ}
 use Rattle.std.proofs.lemmas.Bool.Decides.{when_true}
 use Rattle.dl_base.proofs.ExtendLemmas.{all_named, names_there, statement_added}
 use Rattle.dl_base.proofs.ontology.add_statement.Goals as goal

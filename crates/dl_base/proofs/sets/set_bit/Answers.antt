@@ -1,4 +1,4 @@
-use Rattle.std.proofs.Common.{◌<◌, ◌/◌, length, arith, refl}
+use Rattle.std.proofs.Common.{arith, refl}
 use Rattle.dl_base.proofs.SetLemmas.{set_adds}
 use Rattle.dl_base.proofs.sets.set_bit.Goals as goal
 

@@ -1,9 +1,9 @@
-use Rattle.std.proofs.Common.{◌≡◌, ℕ, List, [], ◌∷◌, ◌++◌, Contains, slice_get, Some, None, ◌∙◌, sym, rules, subst, length, arith, ◌<◌, ap}
+use Rattle.std.proofs.Common.{◌≡◌, ℕ, List, [], ◌∷◌, ◌++◌, Contains, ◌∙◌, length, arith, ◌<◌, ap}
 use Rattle.std.proofs.lemmas.List.Elements.{recursion_from_All}
 use Rattle.std.proofs.lemmas.Map.Entries.{length-values_of}
-use Rattle.std.specs.Map.{lookup, values_of}
+use Rattle.std.specs.Map.{values_of}
 use Rattle.indexmap.proofs.CallerLemmas.{insert_entry-new}
-use Rattle.dl_base.specs.Book.{IsBook, Interns}
+use Rattle.dl_base.specs.Book.{Interns}
 use Rattle.dl_base.proofs.BookLemmas.{lookup_absent, book_pushed, interned_new}
 use Rattle.dl_base.proofs.book.NameBook.intern.Goals as goal
 

@@ -1,0 +1,3 @@
+pub mod LimitRules
+pub mod QueryRules
+pub mod TermCounts

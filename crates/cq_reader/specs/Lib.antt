@@ -1,0 +1,4 @@
+pub mod QueryText
+pub mod QueryReading
+pub mod QueryLimits
+pub mod QueryFault

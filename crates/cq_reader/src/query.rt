@@ -1,0 +1,108 @@
+//! The reader of queries.
+
+ghost use Rattle.std.specs.Prelude.{◌≡◌, ◌≤◌, IfOk, IfErr, length};
+ghost use Rattle.grammar.specs.Reading.{Gives, whole};
+ghost use Rattle.dl_base.specs.Query.{IsQuery};
+ghost use Rattle.cq_reader.specs.QueryReading.{query_at};
+ghost use Rattle.cq_reader.specs.QueryFault.{Means, IsRefused, IsUnfit};
+ghost use Rattle.cq_reader.specs.declared.query.QueryError.TheVariants.{NoMemory};
+
+use crate::atoms::{read_answers, read_atom, read_atoms_on};
+use crate::limits::{distinct_terms, first_unbound};
+use dl_base::{Atoms, Name, Query, Vars};
+use grammar::{ReadError, expect, skip_blanks};
+use std::alloc::{AllocError, Global};
+
+/// The most atoms, distinct terms and answer places of a query.
+const LIMIT: usize = 24;
+
+/// Why a text is refused, in the order in which the reasons are tried.
+#[derive(Debug, Drop)]
+pub enum QueryError {
+    /// The text is no query. The place of the fault, counted from 1: no query begins with the bytes up to this one,
+    /// or the text ends too early.
+    Syntax(u64),
+    /// The query has more than 24 atoms, 24 distinct terms or 24 answer places.
+    TooLarge,
+    /// This is the first answer variable that is in no atom.
+    Unsafe(Name),
+    /// Memory ran out. This may come at any text.
+    NoMemory,
+}
+
+impl From<AllocError> for QueryError {
+    ghost from_gives = { λ _ e. e ≡ NoMemory };
+
+    fn from(_e: AllocError) -> QueryError {
+        QueryError::NoMemory
+    }
+}
+
+/// What the text of a query says.
+#[derive(Drop)]
+struct Draft {
+    answers: Vars,
+    atoms: Atoms,
+}
+
+#[tactic(auto, unfolding(crate::specs::QueryReading::query_at))]
+fn read_draft(alloc: Global, text: &[u8]) -> Result<(Draft, &[u8]), ReadError>
+    ensures { Gives (λ x. (record { answers = x.0.answers; atoms = x.0.atoms }, x.1.now)) result (query_at text.now) }
+{
+    let rest = expect(b"q(", text)?;
+    let (_, rest) = skip_blanks(rest);
+    let (answers, rest) = read_answers(alloc, rest)?;
+    let (_, rest) = skip_blanks(rest);
+    let rest = expect(b":-", rest)?;
+    let (_, rest) = skip_blanks(rest);
+    let (first, rest) = read_atom(alloc, rest)?;
+    let (atoms, rest) = read_atoms_on(alloc, first, rest)?;
+    Ok((Draft { answers, atoms }, rest))
+}
+
+fn whole_draft(alloc: Global, text: &[u8]) -> Result<Draft, ReadError>
+    ensures { Gives (λ d. record { answers = d.answers; atoms = d.atoms }) result (whole (query_at text.now)) }
+{
+    let (draft, rest) = read_draft(alloc, text)?;
+    if !rest.is_empty() {
+        return Err(ReadError::Fault(rest.len()));
+    }
+    Ok(draft)
+}
+
+/// The query, where it is within the limits and each answer variable is in an atom.
+fn fitting(alloc: Global, draft: Draft) -> Result<Query, QueryError>
+    requires { 1 ≤ length draft.atoms }
+    ensures found { IfOk result (λ q. (q ≡ record { answers = draft.answers; atoms = draft.atoms }) × IsQuery q) }
+    ensures refused { IfErr result (λ e. IsUnfit (record { answers = draft.answers; atoms = draft.atoms }) e) }
+{
+    if draft.answers.items().len() > LIMIT || draft.atoms.items().len() > LIMIT {
+        return Err(QueryError::TooLarge);
+    }
+    let terms = distinct_terms(alloc, draft.atoms.items())?;
+    if terms.items().len() > LIMIT {
+        return Err(QueryError::TooLarge);
+    }
+    match first_unbound(draft.answers.items(), terms.items()) {
+        Some(place) => {
+            let var = draft.answers.items()[place].copy(alloc)?;
+            Err(QueryError::Unsafe(var))
+        }
+        None => Ok(Query::new(draft.answers, draft.atoms)),
+    }
+}
+
+/// The query that the text means.
+pub fn read_query(alloc: Global, text: &[u8]) -> Result<Query, QueryError>
+    // The text is this query's and no other's, and it is within the limits.
+    ensures found { IfOk result (λ q. Means text.now q × IsQuery q) }
+
+    // Each error comes exactly where it says, in the order of `QueryError`.
+    ensures refused { IfErr result (λ e. IsRefused text.now e) }
+{
+    match whole_draft(alloc, text) {
+        Ok(draft) => fitting(alloc, draft),
+        Err(ReadError::Fault(left)) => Err(QueryError::Syntax((text.len() - left + 1) as u64)),
+        Err(ReadError::Memory) => Err(QueryError::NoMemory),
+    }
+}

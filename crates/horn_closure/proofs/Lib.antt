@@ -1,0 +1,6 @@
+pub mod CountLemmas
+pub mod EndLemmas
+pub mod QueueLemmas
+pub mod RunLemmas
+pub mod SeedLemmas
+pub mod UsesLemmas

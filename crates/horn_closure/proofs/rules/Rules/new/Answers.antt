@@ -1,0 +1,13 @@
+use Rattle.std.proofs.Common.{◌≡◌, ◌∙◌}
+use Rattle.horn_closure.proofs.UsesLemmas.{all_wider}
+use Rattle.horn_closure.proofs.rules.Rules.new.Goals as goal
+
+pub invariant_of-result : goal.invariant_of-result
+invariant_of-result c =
+    let same : c.in_ok-inclusions.inclusions.items ≡ c.args.o.now.inclusions = c.in_ok-inclusions.ensures ∙ c.inclusions.ensures.list in
+    rw same (record {
+      few = c.inclusions.ensures.within.inclusions;
+      within = all_wider _ c.inclusions.ensures.within;
+      places = c.in_ok-uses.ensures.places;
+      each = rw c.inclusions-2.ensures.list at c.in_ok-uses.ensures.each;
+    })
