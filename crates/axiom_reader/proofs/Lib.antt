@@ -4,3 +4,4 @@ pub mod SideRules
 pub mod FormRules
 pub mod NamesRules
 pub mod MeaningRules
+pub mod BlockRules

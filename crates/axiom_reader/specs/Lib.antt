@@ -3,3 +3,5 @@ pub mod AxiomReading
 pub mod AxiomMeaning
 pub mod AxiomFault
 pub mod Vocabulary
+pub mod Block
+pub mod BlockReading

@@ -54,7 +54,7 @@ fn read_axiom_tree(alloc: Global, text: &[u8]) -> Result<AxiomTree, AxiomError>
 
 /// The axiom that the tree means.
 #[tactic(auto, unfolding(crate::specs::AxiomMeaning::meaning))]
-fn axiom_of(alloc: Global, tree: &AxiomTree) -> Result<Axiom, AllocError>
+pub(crate) fn axiom_of(alloc: Global, tree: &AxiomTree) -> Result<Axiom, AllocError>
     requires { HasMembers tree.now }
     ensures { IfOk result (λ a. a ≡ meaning tree.now) }
 {

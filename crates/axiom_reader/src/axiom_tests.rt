@@ -1,154 +1,101 @@
 //! Texts beside what the format of axioms says of them.
 
 use super::*;
-use dl_base::{Axiom, ExtendError, NamedBasic, NamedHead, NamedRole, Ontology, Which};
+use dl_base::{Name, NamedBasic, NamedHead, NamedInclusion, NamedRole};
 use std::alloc::{AllocError, Global};
 use std::test::Fail;
 
-/// The place at which the text is no axiom, or nothing where it is one.
-fn place(alloc: Global, text: &[u8]) -> Result<Option<u64>, AllocError> {
-    match read_axiom(alloc, text) {
-        Ok(_) => Ok(None),
-        Err(AxiomError::Syntax(at)) => Ok(Some(at)),
-        Err(AxiomError::NoMemory) => Err(AllocError),
+/// Texts that are no axioms, each with the place of its fault.
+const FAULTS: [(&[u8], u64); 25] = [
+    // The end comes too early.
+    (b"", 1),
+    (b"SubClassOf(", 12),
+    (b"SubClassOf(A nothing", 21),
+    (b"SubClassOf(A No", 16),
+    (b"Disjoint(A B ", 14),
+    // Keywords.
+    (b"Subclassof(A B)", 4),
+    (b" Class(A)", 1),
+    (b"Class (A)", 6),
+    (b"Data(A)", 2),
+    (b"EquivalentTo(A B)", 11),
+    // Names and reserved words.
+    (b"Class(1)", 7),
+    (b"Class(And)", 10),
+    (b"Class(<A B>)", 9),
+    (b"Class(A\xc3\xa9)", 8),
+    (b"Property(Inv(r))", 13),
+    (b"SubClassOf(nothing A)", 19),
+    (b"Domain(Some(r) A)", 12),
+    (b"Equivalent(A nothing)", 21),
+    // Terms and lists.
+    (b"SubClassOf(Some(Inv(Inv(r))) A)", 24),
+    (b"SubClassOf(And(A) B)", 17),
+    (b"SubClassOf(And(A And(B C)) D)", 21),
+    (b"SubClassOf(And(A B C D E F G H I) A)", 32),
+    (b"Disjoint(A)", 11),
+    (b"Disjoint(A B C D E F G H I)", 26),
+    (b"Class(A))", 9),
+];
+
+#[test]
+fn faults_have_their_place(rt: HostRuntime) -> Result<(), Fail> {
+    for (text, want) in FAULTS {
+        let found = match read_axiom(rt.alloc(), text) {
+            Ok(_) => 0,
+            Err(AxiomError::Syntax(place)) => place,
+            Err(AxiomError::NoMemory) => return Err(AllocError.into()),
+        };
+        assert_eq!(rt; found, want);
     }
-}
-
-/// One of the texts is an axiom where it should be none, or its fault is at another place.
-fn has_other_place(
-    alloc: Global,
-    table: &[(&[u8], Option<u64>)],
-) -> Result<Option<usize>, AllocError> {
-    for (i, (text, want)) in table.iter().enumerate() {
-        if place(alloc, text)? != *want {
-            return Ok(Some(i));
-        }
-    }
-    Ok(None)
-}
-
-#[test]
-fn texts_that_are_axioms(rt: HostRuntime) -> Result<(), Fail> {
-    let table: [(&[u8], Option<u64>); 26] = [
-        (b"SubClassOf(A B)", None),
-        (b"SubClassOf(A\t \tB)", None),
-        (b"SubClassOf( \tA B\t )", None),
-        (b"SubClassOf(A nothing)", None),
-        (b"SubClassOf(A nothings)", None),
-        (b"SubClassOf(A nothing )", None),
-        (b"SubClassOf(And(A B) nothing)", None),
-        (b"SubClassOf(And( A  B ) And(C Some(r)))", None),
-        (b"SubClassOf(And(A B C D E F G H) A)", None),
-        (b"SubClassOf(<a> <b>)", None),
-        (b"SubClassOf(Some(r) Some(Inv(r)))", None),
-        (b"SubClassOf(Some( Inv( r ) ) A)", None),
-        (b"SubClassOf(Andy Something)", None),
-        (b"Equivalent(A B)", None),
-        (b"Equivalent(And(A B) Some(<r>))", None),
-        (b"Disjoint(A B)", None),
-        (b"Disjoint(A B C D E F G H)", None),
-        (b"Disjoint(And(A B) Some(r))", None),
-        (b"Domain(r A)", None),
-        (b"Domain(Inv(r) nothing)", None),
-        (b"Range(r And(A B))", None),
-        (b"Range(<r> nothing)", None),
-        (b"Class(A)", None),
-        (b"Class( <A> )", None),
-        (b"Property(r)", None),
-        (b"Property(A)", None),
-    ];
-    assert_eq!(rt; has_other_place(rt.alloc(), &table)?, None);
     Ok(())
 }
 
-#[test]
-fn texts_that_end_too_early(rt: HostRuntime) -> Result<(), Fail> {
-    let table: [(&[u8], Option<u64>); 11] = [
-        (b"", Some(1)),
-        (b"S", Some(2)),
-        (b"SubClassOf", Some(11)),
-        (b"SubClassOf(", Some(12)),
-        (b"SubClassOf(A", Some(13)),
-        (b"SubClassOf(A B", Some(15)),
-        (b"SubClassOf(A nothing", Some(21)),
-        (b"SubClassOf(A No", Some(16)),
-        (b"SubClassOf(A And", Some(17)),
-        (b"D", Some(2)),
-        (b"Disjoint(A B ", Some(14)),
-    ];
-    assert_eq!(rt; has_other_place(rt.alloc(), &table)?, None);
-    Ok(())
-}
+/// Axioms, each with what `summary` writes of it.
+const MEANINGS: [(&[u8], &[u8]); 25] = [
+    (b"SubClassOf(A B)", b"A B ;; A:B"),
+    (b"SubClassOf(B\t \tA)", b"B A ;; B:A"),
+    (b"SubClassOf( \tA A\t )", b"A ;; A:A"),
+    (b"SubClassOf(A nothing )", b"A ;; A:0"),
+    (b"SubClassOf(A nothings)", b"A nothings ;; A:nothings"),
+    (b"SubClassOf(Andy <a>)", b"Andy <a> ;; Andy:<a>"),
+    (
+        b"SubClassOf(And(C A C) And(B A Some(r)))",
+        b"C A B ;r ; CAC:B CAC:A CAC:+r",
+    ),
+    (
+        b"SubClassOf(And(A B C D E F G H) A)",
+        b"A B C D E F G H ;; ABCDEFGH:A",
+    ),
+    (b"SubClassOf(Some(Inv(s)) Some(r))", b";s r ; +-s:+r"),
+    (b"SubClassOf(And(Some(A) A) nothing)", b"A ;A ; +AA:0"),
+    (b"Equivalent(A B)", b"A B ;; A:B B:A"),
+    (b"Equivalent(And(A B) C)", b"A B C ;; AB:C C:A C:B"),
+    (b"Disjoint(A B)", b"A B ;; AB:0"),
+    (b"Disjoint(A B C)", b"A B C ;; AB:0 AC:0 BC:0"),
+    (
+        b"Disjoint(And(A B) Some(r) A)",
+        b"A B ;r ; AB+r:0 ABA:0 +rA:0",
+    ),
+    (b"Domain(r A)", b"A ;r ; +r:A"),
+    (b"Domain(Inv(r) nothing)", b";r ; +-r:0"),
+    (b"Domain(Inv( r ) Some( s ))", b";r s ; +-r:+s"),
+    (b"Range(r And(A Some(s)))", b"A ;r s ; +-r:A +-r:+s"),
+    (b"Range(Inv(r) A)", b"A ;r ; +r:A"),
+    (b"Range(<r> nothing)", b";<r> ; +-<r>:0"),
+    (b"Class(A)", b"A ;;"),
+    (b"Class( <A> )", b"<A> ;;"),
+    (b"Property(r)", b";r ;"),
+    (b"Property(A)", b";A ;"),
+];
 
-#[test]
-fn faults_at_keywords(rt: HostRuntime) -> Result<(), Fail> {
-    let table: [(&[u8], Option<u64>); 11] = [
-        (b"Subclass(", Some(4)),
-        (b"Subclassof(A B)", Some(4)),
-        (b"subClassOf(A B)", Some(1)),
-        (b" Class(A)", Some(1)),
-        (b"Class (A)", Some(6)),
-        (b"Classes(A)", Some(6)),
-        (b"Dog(A)", Some(3)),
-        (b"Data(A)", Some(2)),
-        (b"EquivalentTo(A B)", Some(11)),
-        (b"Rangers(r A)", Some(6)),
-        (b"Property[r]", Some(9)),
-    ];
-    assert_eq!(rt; has_other_place(rt.alloc(), &table)?, None);
-    Ok(())
-}
-
-#[test]
-fn faults_at_names_and_reserved_words(rt: HostRuntime) -> Result<(), Fail> {
-    let table: [(&[u8], Option<u64>); 17] = [
-        (b"Class(1)", Some(7)),
-        (b"Class(A B)", Some(9)),
-        (b"Class(nothing)", Some(14)),
-        (b"Class(And)", Some(10)),
-        (b"Class(Some(r))", Some(11)),
-        (b"Property(Inv(r))", Some(13)),
-        (b"Class(<A)", Some(10)),
-        (b"Class(<A B>)", Some(9)),
-        (b"Class(\0)", Some(7)),
-        (b"Class(\xc3\xa9)", Some(7)),
-        (b"Class(A\xc3\xa9)", Some(8)),
-        (b"SubClassOf(nothing A)", Some(19)),
-        (b"SubClassOf(Inv(r) A)", Some(15)),
-        (b"Domain(nothing A)", Some(15)),
-        (b"Domain(Some(r) A)", Some(12)),
-        (b"Range(r Inv(r))", Some(12)),
-        (b"Equivalent(A nothing)", Some(21)),
-    ];
-    assert_eq!(rt; has_other_place(rt.alloc(), &table)?, None);
-    Ok(())
-}
-
-#[test]
-fn faults_at_terms_and_lists(rt: HostRuntime) -> Result<(), Fail> {
-    let table: [(&[u8], Option<u64>); 9] = [
-        (b"SubClassOf(Some(Inv(Inv(r))) A)", Some(24)),
-        (b"SubClassOf(Some(And(A B)) A)", Some(20)),
-        (b"SubClassOf(And(A) B)", Some(17)),
-        (b"SubClassOf(And(A And(B C)) D)", Some(21)),
-        (b"SubClassOf(And(A B C D E F G H I) A)", Some(32)),
-        (b"SubClassOf(And(A,B) C)", Some(17)),
-        (b"Disjoint(A)", Some(11)),
-        (b"Disjoint(A B C D E F G H I)", Some(26)),
-        (b"Class(A))", Some(9)),
-    ];
-    assert_eq!(rt; has_other_place(rt.alloc(), &table)?, None);
-    Ok(())
-}
-
-/// What the axiom's names are, one behind the other.
-fn joined(alloc: Global, names: &[dl_base::Name]) -> Result<Vec<u8>, AllocError> {
-    let mut text = Vec::new(alloc);
+fn write_names(text: &mut Vec<u8>, names: &[Name]) -> Result<(), AllocError> {
     for name in names {
         text.extend_from_slice(name.bytes())?;
         text.push(b' ')?;
     }
-    Ok(text)
+    text.push(b';')?;
+    Ok(())
 }
 
 fn write_role(text: &mut Vec<u8>, role: &NamedRole) -> Result<(), AllocError> {
@@ -168,95 +115,37 @@ fn write_basic(text: &mut Vec<u8>, basic: &NamedBasic) -> Result<(), AllocError>
     }
 }
 
-/// The inclusions, each as its body, `:` and its head, `0` for nothing; `+` is `Some`, and `-` is `Inv`.
-fn inclusions(alloc: Global, axiom: &Axiom) -> Result<Vec<u8>, AllocError> {
-    let mut text = Vec::new(alloc);
-    for inclusion in axiom.inclusions() {
-        for basic in inclusion.body.items() {
-            write_basic(&mut text, basic)?;
-        }
-        text.push(b':')?;
-        match &inclusion.head {
-            NamedHead::Basic(basic) => write_basic(&mut text, basic)?,
-            NamedHead::Nothing => text.push(b'0')?,
-        }
-        text.push(b' ')?;
+fn write_inclusion(text: &mut Vec<u8>, inclusion: &NamedInclusion) -> Result<(), AllocError> {
+    text.push(b' ')?;
+    for basic in inclusion.body.items() {
+        write_basic(text, basic)?;
     }
-    Ok(text)
-}
-
-#[test]
-fn what_axioms_mean(rt: HostRuntime) -> Result<(), Fail> {
-    // text, concept names, role names, inclusions
-    let table: [(&[u8], &[u8], &[u8], &[u8]); 16] = [
-        (b"SubClassOf(A B)", b"A B ", b"", b"A:B "),
-        (b"SubClassOf(B A)", b"B A ", b"", b"B:A "),
-        (b"SubClassOf(A A)", b"A ", b"", b"A:A "),
-        (b"SubClassOf(A nothing)", b"A ", b"", b"A:0 "),
-        (
-            b"SubClassOf(And(C A C) And(B A Some(r)))",
-            b"C A B ",
-            b"r ",
-            b"CAC:B CAC:A CAC:+r ",
-        ),
-        (
-            b"SubClassOf(Some(Inv(s)) Some(r))",
-            b"",
-            b"s r ",
-            b"+-s:+r ",
-        ),
-        (
-            b"SubClassOf(And(Some(A) A) nothing)",
-            b"A ",
-            b"A ",
-            b"+AA:0 ",
-        ),
-        (b"Equivalent(A B)", b"A B ", b"", b"A:B B:A "),
-        (b"Equivalent(And(A B) C)", b"A B C ", b"", b"AB:C C:A C:B "),
-        (b"Disjoint(A B C)", b"A B C ", b"", b"AB:0 AC:0 BC:0 "),
-        (
-            b"Disjoint(And(A B) Some(r) A)",
-            b"A B ",
-            b"r ",
-            b"AB+r:0 ABA:0 +rA:0 ",
-        ),
-        (b"Domain(r A)", b"A ", b"r ", b"+r:A "),
-        (b"Domain(Inv(r) nothing)", b"", b"r ", b"+-r:0 "),
-        (b"Range(r And(A Some(s)))", b"A ", b"r s ", b"+-r:A +-r:+s "),
-        (b"Range(Inv(r) A)", b"A ", b"r ", b"+r:A "),
-        (b"Class(A)", b"A ", b"", b""),
-    ];
-    for (text, concepts, roles, want) in table {
-        match read_axiom(rt.alloc(), text) {
-            Ok(axiom) => {
-                let found = joined(rt.alloc(), axiom.concepts())?;
-                assert_eq!(rt; found.as_slice(), concepts, "at {text:?}");
-                let found = joined(rt.alloc(), axiom.roles())?;
-                assert_eq!(rt; found.as_slice(), roles, "at {text:?}");
-                let found = inclusions(rt.alloc(), &axiom)?;
-                assert_eq!(rt; found.as_slice(), want, "at {text:?}");
-            }
-            Err(_) => assert!(rt; false, "at {text:?}"),
-        }
+    text.push(b':')?;
+    match &inclusion.head {
+        NamedHead::Basic(basic) => write_basic(text, basic)?,
+        NamedHead::Nothing => text.push(b'0')?,
     }
     Ok(())
 }
 
-/// Whether the axiom passes the limit of members when an empty ontology is extended by it.
-fn is_too_long(alloc: Global, text: &[u8]) -> Result<bool, AllocError> {
+/// The concept names, the role names and the inclusions of the axiom that the text is. An inclusion is its body, `:` and
+/// its head, `0` for nothing; `+` is `Some`, and `-` is `Inv`.
+fn summary(alloc: Global, text: &[u8]) -> Result<Vec<u8>, AllocError> {
     let axiom = read_axiom(alloc, text).map_err(|_| AllocError)?;
-    match Ontology::new(alloc)?.extend(alloc, &axiom) {
-        Ok(_) => Ok(false),
-        Err(ExtendError::TooMany(Which::Conjuncts)) => Ok(true),
-        Err(_) => Err(AllocError),
+    let mut found = Vec::new(alloc);
+    write_names(&mut found, axiom.concepts())?;
+    write_names(&mut found, axiom.roles())?;
+    for inclusion in axiom.inclusions() {
+        write_inclusion(&mut found, inclusion)?;
     }
+    Ok(found)
 }
 
 #[test]
-fn bodies_of_eight_and_nine_members(rt: HostRuntime) -> Result<(), Fail> {
-    let eight = b"Disjoint(And(A B C D) And(A B C D))";
-    assert_eq!(rt; is_too_long(rt.alloc(), eight)?, false);
-    let nine = b"Disjoint(And(A B C D) And(A B C D E))";
-    assert_eq!(rt; is_too_long(rt.alloc(), nine)?, true);
+fn axioms_have_their_meaning(rt: HostRuntime) -> Result<(), Fail> {
+    for (text, want) in MEANINGS {
+        let found = summary(rt.alloc(), text)?;
+        assert_eq!(rt; found.as_slice(), want);
+    }
     Ok(())
 }

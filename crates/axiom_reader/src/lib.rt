@@ -6,8 +6,7 @@
 #![tactic(auto)]
 
 mod axiom;
-#[cfg(test)]
-mod axiom_tests;
+mod block;
 mod copies;
 mod forms;
 mod inclusions;
@@ -16,4 +15,10 @@ mod tree;
 mod vocabulary;
 
 pub use axiom::{AxiomError, read_axiom};
+pub use block::{Block, BlockCause, BlockError, BlockResult};
 pub use tree::{AxiomTree, Members, RightSide, Sides};
+
+#[cfg(test)]
+mod axiom_tests;
+#[cfg(test)]
+mod block_tests;
