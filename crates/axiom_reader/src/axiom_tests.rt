@@ -6,7 +6,7 @@ use std::alloc::{AllocError, Global};
 use std::test::Fail;
 
 /// Texts that are no axioms, each with the place of its fault.
-const FAULTS: [(&[u8], u64); 25] = [
+const FAULTS: [(&[u8], u64); 47] = [
     // The end comes too early.
     (b"", 1),
     (b"SubClassOf(", 12),
@@ -36,6 +36,29 @@ const FAULTS: [(&[u8], u64); 25] = [
     (b"Disjoint(A)", 11),
     (b"Disjoint(A B C D E F G H I)", 26),
     (b"Class(A))", 9),
+    // More of each.
+    (b"S", 2),
+    (b"SubClassOf", 11),
+    (b"SubClassOf(A", 13),
+    (b"SubClassOf(A B", 15),
+    (b"SubClassOf(A And", 17),
+    (b"D", 2),
+    (b"Subclass(", 4),
+    (b"subClassOf(A B)", 1),
+    (b"Classes(A)", 6),
+    (b"Dog(A)", 3),
+    (b"Rangers(r A)", 6),
+    (b"Property[r]", 9),
+    (b"Class(A B)", 9),
+    (b"Class(nothing)", 14),
+    (b"Class(Some(r))", 11),
+    (b"Class(<A)", 10),
+    (b"Class(\0)", 7),
+    (b"Class(\xc3\xa9)", 7),
+    (b"SubClassOf(Inv(r) A)", 15),
+    (b"Domain(nothing A)", 15),
+    (b"Range(r Inv(r))", 12),
+    (b"SubClassOf(Some(And(A B)) A)", 20),
 ];
 
 #[test]
