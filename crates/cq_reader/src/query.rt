@@ -12,21 +12,26 @@ use crate::limits::{distinct_terms, first_unbound};
 use dl_base::{Atoms, Name, Query, Vars};
 use grammar::{ReadError, expect, skip_blanks};
 use std::alloc::{AllocError, Global};
+use thiserror::Error;
 
 /// The most atoms, distinct terms and answer places of a query.
 const LIMIT: usize = 24;
 
 /// Why a text is refused, in the order in which the reasons are tried.
-#[derive(Debug, Drop)]
+#[derive(Debug, Drop, Error)]
 pub enum QueryError {
     /// The text is no query. The place of the fault, counted from 1: no query begins with the bytes up to this one,
     /// or the text ends too early.
+    #[error("syntax at byte {0}")]
     Syntax(u64),
     /// The query has more than 24 atoms, 24 distinct terms or 24 answer places.
+    #[error("more than 24 atoms, terms or answer places")]
     TooLarge,
     /// This is the first answer variable that is in no atom.
+    #[error("an answer variable is in no atom")]
     Unsafe(Name),
     /// Memory ran out. This may come at any text.
+    #[error("no memory")]
     NoMemory,
 }
 

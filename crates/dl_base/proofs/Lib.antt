@@ -6,4 +6,6 @@ pub mod BookLemmas
 pub mod RisingLemmas
 pub mod ExtendLemmas
 pub mod RowLemmas
+pub mod ElemLemmas
+pub mod TableExamples
 pub mod SetLemmas

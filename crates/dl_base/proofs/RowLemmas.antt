@@ -25,7 +25,7 @@ words_of : NamedRow → List (List ℕ)
 words_of (row.Concept c a) = c ∷ a ∷ []
 words_of (row.Role p a b) = p ∷ a ∷ b ∷ []
 
-then_equal : (r : Ordering) → ordering_then r Equal ≡ r
+pub then_equal : (r : Ordering) → ordering_then r Equal ≡ r
 then_equal Less = refl
 then_equal Equal = refl
 then_equal Greater = refl
@@ -37,7 +37,7 @@ by_words (row.Concept c a) (row.Role q x y) = refl
 by_words (row.Role p a b) (row.Concept d x) = refl
 by_words (row.Role p a b) (row.Role q x y) = ap (λ (r : Ordering). ordering_then (name_cmp p q) (ordering_then (name_cmp a x) r)) (then_equal (name_cmp b y))
 
-total_as : {X : Type 0} (R S : X → X → Ordering) → ((x y : X) → R x y ≡ S x y) → IsTotalOrder R → IsTotalOrder S
+pub total_as : {X : Type 0} (R S : X → X → Ordering) → ((x y : X) → R x y ≡ S x y) → IsTotalOrder R → IsTotalOrder S
 total_as R S is t = record {
   antisymm = λ x y. rw (← is x y, ← is y x) (t.antisymm x y);
   trans = λ x y z e f. sym (is x z) ∙ t.trans x y z (is x y ∙ e) (is y z ∙ f);
@@ -55,12 +55,12 @@ pub row_total : IsTotalOrder row_cmp
 row_total = total_as (then_cmp (on form_of nat_cmp) (on words_of (slice_cmp name_cmp))) row_cmp by_words
     (then_total (on_total form_of nat_cmp_total) (on_total words_of (lists_total nat_list_cmp_total)))
 
-then_first : (r s : Ordering) → ordering_then r s ≡ Equal → r ≡ Equal
+pub then_first : (r s : Ordering) → ordering_then r s ≡ Equal → r ≡ Equal
 then_first Less s e = e
 then_first Equal s e = refl
 then_first Greater s e = e
 
-then_second : (r s : Ordering) → ordering_then r s ≡ Equal → s ≡ Equal
+pub then_second : (r s : Ordering) → ordering_then r s ≡ Equal → s ≡ Equal
 then_second Less s e = absurd cc
 then_second Equal s e = e
 then_second Greater s e = absurd cc

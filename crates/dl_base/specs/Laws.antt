@@ -1,5 +1,7 @@
 -- Laws of the definitions, and small bases that show what they say.
 use Rattle.std.specs.Prelude.{◌≡◌, ℕ, List, [], ◌∷◌, codes, Contains, false}
+use Rattle.dl_base.specs.Tables.{RoleRow}
+use Rattle.dl_base.specs.Completion.{IsCompletedRow}
 use Rattle.dl_base.specs.Ontology.{Terminology}
 use Rattle.dl_base.specs.Derivation.{Derives}
 use Rattle.dl_base.specs.Query.{Question}
@@ -10,6 +12,8 @@ use Rattle.dl_base.specs.declared.concept.Basic.{Basic}
 use Rattle.dl_base.specs.declared.concept.Basic.TheVariants as basic
 use Rattle.dl_base.specs.declared.concept.Head.TheVariants as head
 use Rattle.dl_base.specs.declared.concept.Inclusion.{Inclusion}
+use Rattle.dl_base.specs.declared.element.Elem.{Elem}
+use Rattle.dl_base.specs.declared.element.Elem.TheVariants as elem
 use Rattle.dl_base.specs.declared.row.NamedRow.{NamedRow}
 use Rattle.dl_base.specs.declared.row.NamedRow.TheVariants as row
 use Rattle.dl_base.specs.declared.query.Term.TheVariants as term
@@ -68,3 +72,16 @@ successors = record {
 abbrev pub WitnessServes : Type 0
 WitnessServes = IsCertain successors (row.Concept (codes "A") (codes "a") ∷ [])
     (record { answers = codes "x" ∷ []; atoms = atom.Role (codes "r") (term.Var (codes "x")) (term.Var (codes "z")) ∷ [] }) (codes "a" ∷ [])
+
+-- the witness of r in its first generation
+abbrev pub witness_of_r : Elem
+witness_of_r = elem.Shared (record { role = record { name = 0; inverse = false }; generation = 1 })
+
+-- a is in A, so the completed tables lead from it to the witness of r
+abbrev pub WitnessStands : Type 0
+WitnessStands = IsCompletedRow successors (row.Concept (codes "A") (codes "a") ∷ []) (codes "a" ∷ []) (λ r. 1) (RoleRow 0 (elem.Named 0) witness_of_r)
+
+-- beside a named successor there is no witness
+abbrev pub NoWitnessBeside : Type 0
+NoWitnessBeside = IsCompletedRow successors (row.Concept (codes "A") (codes "a") ∷ row.Role (codes "r") (codes "a") (codes "b") ∷ [])
+    (codes "a" ∷ codes "b" ∷ []) (λ r. 1) (RoleRow 0 (elem.Named 0) witness_of_r) → ⊥

@@ -12,4 +12,7 @@ pub mod Query
 pub mod Answers
 pub mod Clashes
 pub mod Replies
+pub mod Tables
+pub mod Completion
+pub mod Matches
 pub mod Laws

@@ -1,5 +1,9 @@
 //! Elements of completed tables.
+ghost use Rattle.std.specs.Prelude.{◌≡◌};
+ghost use Rattle.dl_base.specs.Tables.{elem_cmp};
+
 use crate::Role;
+use std::cmp::Ordering;
 
 /// The one shared witness of a role, in one of its generations.
 #[derive(Clone, Copy, Debug, PartialEq, Eq, PartialOrd, Ord)]
@@ -17,6 +21,15 @@ pub enum Elem {
     Named(u32),
     /// A witness.
     Shared(Witness),
+}
+
+impl Elem {
+    /// How the elements stand to each other in the order of elements.
+    pub fn compared(&self, other: &Elem) -> Ordering
+        ensures { result ≡ elem_cmp self.now other.now }
+    {
+        self.cmp(other)
+    }
 }
 
 /// The witness that a role had when something was computed, or none where it was not live.

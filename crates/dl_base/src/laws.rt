@@ -1,5 +1,5 @@
 //! Laws of the definitions: public functions with no parameters, whose contracts are the laws.
-ghost use Rattle.dl_base.specs.Laws.{AnnIsStaff, AnswersOnce, DerivesMore, DerivesThrough, ExistsBefore, WitnessServes};
+ghost use Rattle.dl_base.specs.Laws.{AnnIsStaff, AnswersOnce, DerivesMore, DerivesThrough, ExistsBefore, NoWitnessBeside, WitnessServes, WitnessStands};
 
 /// Where each member of one set is derived from another, so is whatever is derived from the first.
 pub fn derives_through()
@@ -29,4 +29,14 @@ pub fn ann_is_staff()
 /// A variable at no answer place may stand on an element that no row names.
 pub fn witness_serves()
     ensures { WitnessServes }
+{}
+
+/// Where a successor is derived and no row gives one, the completed tables lead to the role's witness.
+pub fn witness_stands()
+    ensures { WitnessStands }
+{}
+
+/// A named successor keeps the witness out of the completed tables.
+pub fn no_witness_beside()
+    ensures { NoWitnessBeside }
 {}

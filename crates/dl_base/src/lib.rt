@@ -13,6 +13,7 @@ mod ontology;
 mod query;
 mod row;
 mod sets;
+mod tables;
 
 pub use axiom::{Axiom, NamedBasic, NamedHead, NamedInclusion, NamedInclusions, NamedRole, Names};
 pub use book::NameBook;
@@ -26,6 +27,7 @@ pub use plain_list::Items;
 pub use query::{Atom, Atoms, Key, Keys, Query, Term, Vars};
 pub use row::{Change, Changes, NamedChange, NamedRow, NamedRows, Row, RowList};
 pub use sets::{BasicSet, PLACES, RoleSet, place};
+pub use tables::Tables;
 
 #[cfg(test)]
 mod name_tests;

@@ -15,6 +15,7 @@ use grammar::ReadError;
 use std::alloc::{AllocError, Global};
 use std::cmp::Ordering;
 use std::marker::Model;
+use thiserror::Error;
 
 /// A name of a concept, a role, an individual or a variable: its bytes, the brackets of an angled name included.
 /// Names are ordered by their bytes.
@@ -35,12 +36,14 @@ impl Model for Name {
 }
 
 /// Why bytes are no name.
-#[derive(Debug, Drop)]
+#[derive(Debug, Drop, Error)]
 pub enum NameError {
     /// No name has the bytes up to this place, counted from 0, as its first ones; the number of bytes, where the
     /// bytes are the first ones of a longer name.
+    #[error("no name, from byte {0}")]
     Bad(u64),
     /// Memory ran out.
+    #[error("no memory")]
     NoMemory,
 }
 
