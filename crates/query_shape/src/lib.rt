@@ -1,0 +1,6 @@
+//! A query by numbers: its distinct terms in the order in which they occur, and its names by their places in an ontology.
+#![tactic(auto)]
+
+mod layout;
+
+pub use layout::{Shape, ShapeAtom};
