@@ -132,30 +132,36 @@ module _ (o : Terminology) (rows : List NamedRow) (names : List (List ℕ)) (gen
     row_at (atom.Concept name t) there =
         let holds : Holds o rows c.place (atom.Concept name t) = c.atoms (atom.Concept name t) there in
         let exists : Exists o rows (c.place t) = in_query (atom.Concept name t) t there (contains_first t []) in
-        let on : Sits o rows (c.place t) (sits o rows (c.place t)) = sitting o rows no (c.place t) exists in
-        (holds.0, holds.1, (completed.each (ConceptRow holds.0 (seat t))).1 (record {
-          node = Individual (sits o rows (c.place t));
-          is = seat_is (c.place t) exists;
-          there = on.individual;
-          derived = derived_on o rows no (c.place t) (sits o rows (c.place t)) (basic.Concept holds.0) on holds.2;
-        }))
+        let on : Sits o rows (c.place t) (sits o rows (c.place t)) = sitting o rows no (c.place t) exists in (
+          holds.0,
+          holds.1,
+          (completed.each (ConceptRow holds.0 (seat t))).1 (record {
+            node = Individual (sits o rows (c.place t));
+            is = seat_is (c.place t) exists;
+            there = on.individual;
+            derived = derived_on o rows no (c.place t) (sits o rows (c.place t)) (basic.Concept holds.0) on holds.2;
+          }),
+        )
     row_at (atom.Role name t u) there =
         let holds : Holds o rows c.place (atom.Role name t u) = c.atoms (atom.Role name t u) there in
         let exists_t : Exists o rows (c.place t) = in_query (atom.Role name t u) t there (contains_first t (u ∷ [])) in
-        let exists_u : Exists o rows (c.place u) = in_query (atom.Role name t u) u there (contains_later t (u ∷ []) u (contains_first u [])) in
-        (holds.0, holds.1, (completed.each (RoleRow holds.0 (seat t) (seat u))).1 (record {
-          from = Individual (sits o rows (c.place t));
-          to = Individual (sits o rows (c.place u));
-          from_is = seat_is (c.place t) exists_t;
-          to_is = seat_is (c.place u) exists_u;
-          leads = inl (record {
-            from = sits o rows (c.place t);
-            to = sits o rows (c.place u);
-            from_is = refl;
-            to_is = refl;
-            row = edge_is_row o rows no holds.0 (c.place t) (c.place u) exists_t exists_u holds.2;
-          });
-        }))
+        let exists_u : Exists o rows (c.place u) = in_query (atom.Role name t u) u there (contains_later t (u ∷ []) u (contains_first u [])) in (
+          holds.0,
+          holds.1,
+          (completed.each (RoleRow holds.0 (seat t) (seat u))).1 (record {
+            from = Individual (sits o rows (c.place t));
+            to = Individual (sits o rows (c.place u));
+            from_is = seat_is (c.place t) exists_t;
+            to_is = seat_is (c.place u) exists_u;
+            leads = inl (record {
+              from = sits o rows (c.place t);
+              to = sits o rows (c.place u);
+              from_is = refl;
+              to_is = refl;
+              row = edge_is_row o rows no holds.0 (c.place t) (c.place u) exists_t exists_u holds.2;
+            });
+          }),
+        )
 
     seat_named : (t : Term) (a : List ℕ) → IsIndividual rows a → c.place t ≡ Named a → IsNumbered names (seat t) a
     seat_named t a there is = subst (λ (e : Element). IsNumbered names (numbered names (sits o rows e)) a) (sym is) (at_its_place names a (completed.numbered a there))
@@ -176,8 +182,8 @@ module _ (o : Terminology) (rows : List NamedRow) (names : List (List ℕ)) (gen
       match_is = row_at;
       answers = seats q.answers key c.answers all;
       names_are = λ a there.
-        let is : c.place (term.Named a) ≡ Named a = c.names a there in
-        seat_named (term.Named a) a (subst (Exists o rows) is (c.exist (term.Named a) there)) is;
+          let is : c.place (term.Named a) ≡ Named a = c.names a there in
+          seat_named (term.Named a) a (subst (Exists o rows) is (c.exist (term.Named a) there)) is;
     }
 
   -- from a match
@@ -218,14 +224,17 @@ module _ (o : Terminology) (rows : List NamedRow) (names : List (List ℕ)) (gen
         let at = concept_at row.0 (k.place t) row.2 in
         (row.0, row.1, subst (λ (e : Element). DerivedAt o rows e (basic.Concept row.0)) (sym (named_is names (k.place t) at.individual at.is)) at.derived)
     holds_at (atom.Role name t u) row =
-        let at = role_at row.0 (k.place t) (k.place u) row.2 in
-        (row.0, row.1, inl (record {
-          from = at.from;
-          to = at.to;
-          from_is = named_is names (k.place t) at.from at.from_is;
-          to_is = named_is names (k.place u) at.to at.to_is;
-          row = at.row;
-        }))
+        let at = role_at row.0 (k.place t) (k.place u) row.2 in (
+          row.0,
+          row.1,
+          inl (record {
+            from = at.from;
+            to = at.to;
+            from_is = named_is names (k.place t) at.from at.from_is;
+            to_is = named_is names (k.place u) at.to at.to_is;
+            row = at.row;
+          }),
+        )
 
     stands : (vs key : List (List ℕ)) → AllZip (λ v a. IsNumbered names (k.place (term.Var v)) a) vs key → map (λ v. stand (term.Var v)) vs ≡ map Named key
     stands [] [] zip = refl
@@ -246,13 +255,16 @@ module _ (o : Terminology) (rows : List NamedRow) (names : List (List ℕ)) (gen
         (individuals vs key (All-tail (λ v. Contains (terms q) (term.Var v)) v vs safe) zip.1)
 
     pub certain_of_key : All (IsIndividual rows) key × IsCertain o rows q key
-    certain_of_key = (individuals q.answers key query.safe k.answers, record {
-      place = stand;
-      exist = exists_at;
-      answers = stands q.answers key k.answers;
-      names = λ a there. named_is names (k.place (term.Named a)) a (k.names_are a there);
-      atoms = λ a there. holds_at a (k.match_is a there);
-    })
+    certain_of_key = (
+      individuals q.answers key query.safe k.answers,
+      record {
+        place = stand;
+        exist = exists_at;
+        answers = stands q.answers key k.answers;
+        names = λ a there. named_is names (k.place (term.Named a)) a (k.names_are a there);
+        atoms = λ a there. holds_at a (k.match_is a there);
+      },
+    )
 
 pub keys_are_certain : KeysAreCertain
 keys_are_certain o rows names generation table q key query none completed = (

@@ -1,2 +1,4 @@
 pub mod Keys
 pub mod AnswerLaws
+pub mod Binding
+pub mod Found

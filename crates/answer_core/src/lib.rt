@@ -1,4 +1,12 @@
 //! The certain answers of a query, from completed tables.
 #![tactic(auto)]
 
+mod answer_list;
+mod bound;
+mod fixed;
 pub mod laws;
+mod name_keys;
+mod number_keys;
+
+pub use answer_list::answers;
+pub use bound::{Bound, bind};

@@ -1,0 +1,65 @@
+-- Sets of keys, seen by what a key is read as.
+use Rattle.std.proofs.Common.{◌≡◌, ℕ, ◌⊎◌, inl, inr, Bool, true, List, [], ◌∷◌, map, Contains, refl, sym, ◌∙◌, ap, subst}
+use Rattle.std.specs.Cmp.{IsTotalOrder}
+use Rattle.std.specs.List.{AllByRecursion, list_any}
+use Rattle.std.specs.List.Sorted.{IsStrictlySortedBy}
+use Rattle.std.specs.BTreeMap.{is_at}
+use Rattle.std.specs.BTreeSet.{insert_key}
+use Rattle.std.specs.declared.cmp.Ordering.{Ordering}
+use Rattle.std.specs.declared.cmp.Ordering.TheVariants.{Less, Equal, Greater}
+use Rattle.std.specs.Ordering.{match_ordering}
+use Rattle.dl_base.proofs.RisingLemmas.{placed, placed_adds, contains_first, contains_later}
+use Rattle.answer_core.specs.Found.{AddsKey}
+
+module _ {K X : Type 0} (f : K → X) (R : X → X → Ordering) (total : IsTotalOrder R) (same : (x y : X) → R x y ≡ Equal → x ≡ y) where
+  insert_reads : (k : K) (ks : List K) → map f (insert_key (λ a b. R (f a) (f b)) ks k) ≡ placed R total same (f k) (map f ks)
+  insert_reads k [] = refl
+  insert_reads k (x ∷ xs) = by (R (f k) (f x)) (insert_reads k xs)
+    where
+      by : (d : Ordering) → map f (insert_key (λ a b. R (f a) (f b)) xs k) ≡ placed R total same (f k) (map f xs)
+          → map f (match_ordering d (k ∷ x ∷ xs) (x ∷ xs) (x ∷ insert_key (λ a b. R (f a) (f b)) xs k))
+          ≡ match_ordering d (f k ∷ f x ∷ map f xs) (f x ∷ map f xs) (f x ∷ placed R total same (f k) (map f xs))
+      by Less rest = refl
+      by Equal rest = refl
+      by Greater rest = ap (λ (zs : List X). f x ∷ zs) rest
+
+  placed_key : (x : X) (xs : List X) → AddsKey xs x (placed R total same x xs)
+  placed_key x xs z =
+      let adds = placed_adds R total same x xs in
+      (
+        λ c. elim (adds.each z c) [ inl e ↦ inr e | inr d ↦ inl d ],
+        λ either. elim either [ inl d ↦ adds.stays z d | inr e ↦ subst (Contains (placed R total same x xs)) (sym e) adds.there ],
+      )
+
+  -- what an insertion leaves has one more key
+  pub inserted : (k : K) (ks new : List K) (x : X) (old : List X) → f k ≡ x → map f ks ≡ old → new ≡ insert_key (λ a b. R (f a) (f b)) ks k
+      → AddsKey old x (map f new)
+  inserted k ks new x old key was is =
+      let reads : map f new ≡ placed R total same (f k) (map f ks) = ap (map f) is ∙ insert_reads k ks in
+      let same_key : placed R total same (f k) (map f ks) ≡ placed R total same x old = λ j. placed R total same (key j) (was j) in
+      subst (AddsKey old x) (sym (reads ∙ same_key)) (placed_key x old)
+
+  -- what a look-up finds is a key
+  pub looked_up : (q : X) (ks : List K) → list_any (is_at (λ k. R q (f k))) ks ≡ true → Contains (map f ks) q
+  looked_up q [] is = absurd cc
+  looked_up q (x ∷ xs) is = by (R q (f x)) refl (looked_up q xs)
+    where
+      by : (d : Ordering) → R q (f x) ≡ d → (list_any (is_at (λ k. R q (f k))) xs ≡ true → Contains (map f xs) q) → Contains (f x ∷ map f xs) q
+      by Equal e rest = subst (Contains (f x ∷ map f xs)) (sym (same q (f x) e)) (contains_first (f x) (map f xs))
+      by Less e rest = contains_later (f x) (map f xs) q (rest (rw e at is))
+      by Greater e rest = contains_later (f x) (map f xs) q (rest (rw e at is))
+
+-- a key that is there adds nothing
+pub known_key : {X : Type 0} (xs : List X) (x : X) → Contains xs x → AddsKey xs x xs
+known_key xs x there z = (λ c. inl c, λ either. elim either [ inl c ↦ c | inr e ↦ subst (Contains xs) (sym e) there ])
+
+module _ {K X : Type 0} (f : K → X) (R : X → X → Ordering) where
+  above_reads : (x : X) (ks : List K) → AllByRecursion (λ k. R x (f k) ≡ Less) ks → AllByRecursion (λ z. R x z ≡ Less) (map f ks)
+  above_reads x [] all = tt
+  above_reads x (k ∷ ks) all = (all.0, above_reads x ks all.1)
+
+  -- the keys as they are read rise as the keys do
+  pub rising_reads : (ks : List K) → IsStrictlySortedBy (λ a b. R (f a) (f b)) ks → IsStrictlySortedBy R (map f ks)
+  unfolding IsStrictlySortedBy
+  rising_reads [] rises = tt
+  rising_reads (k ∷ ks) rises = (above_reads (f k) ks rises.0, rising_reads ks rises.1)

@@ -1,0 +1,9 @@
+use Rattle.answer_core.proofs.TermLemmas.{answers_occur, numbers_within}
+use Rattle.answer_core.proofs.bound.bind.Goals as goal
+
+pub variable_numbers-requires : goal.variable_numbers-requires
+variable_numbers-requires g c =
+    answers_occur c.args.q.now c.in_ok-shape.shape.terms c.answers.ensures.query c.in_ok-shape.ensures.ok.terms_are c.answers.result.now c.answers.ensures.places
+
+pub invariant_of-result : goal.invariant_of-result
+invariant_of-result g c = numbers_within c.in_ok-shape.shape.terms c.answers.result.now c.in_ok-answers.answers c.in_ok-answers.ensures

@@ -1,0 +1,43 @@
+-- Keys by the numbers of their individuals.
+use Rattle.std.specs.Prelude.{◌≡◌, ◌⊎◌, ◌↔◌, ◌<◌, ℕ, List, Option, Some, length, slice_get, Contains}
+use Rattle.std.specs.List.{AllZip}
+use Rattle.std.specs.List.Sorted.{IsStrictlySortedBy}
+use Rattle.dl_base.specs.Answers.{key_cmp}
+use Rattle.dl_base.specs.Tables.{TableRow}
+use Rattle.dl_base.specs.declared.element.Elem.{Elem}
+use Rattle.dl_base.specs.declared.element.Elem.TheVariants as elem
+use Rattle.query_shape.specs.Shape.{IsShapeMatch}
+use Rattle.join_ops.specs.Joins.{IsFixed}
+use Rattle.answer_core.specs.Binding.{BoundQuery}
+
+-- the element is the individual of this number, one of so many
+abbrev pub IsOf : ℕ → Elem → ℕ → Type 0
+IsOf count e n = (e ≡ elem.Named n) × (n < count)
+
+-- the term of the first number has the individual of the second, one of so many
+abbrev pub Stands : List Elem → ℕ → ℕ → ℕ → Type 0
+Stands images count p n = (slice_get images p ≡ Some (elem.Named n)) × (n < count)
+
+-- the terms of these numbers have these individuals
+abbrev pub Reads : List Elem → List ℕ → ℕ → List ℕ → Type 0
+Reads images places count numbers = AllZip (Stands images count) places numbers
+
+-- some match that places the fixed terms so has these individuals at the answer places
+pub record IsFoundKey (table : List TableRow) (b : BoundQuery) (fixed : List (Option ℕ)) (count : ℕ) (numbers : List ℕ) : Type 0 where
+  pub images : List Elem
+  pub match_is : IsShapeMatch table b.shape images
+  pub fixed_are : IsFixed fixed images
+  pub reads : Reads images b.answers count numbers
+
+-- one more key, which is one of them however often it was there
+abbrev pub AddsKey : {X : Type 0} → List X → X → List X → Type 0
+AddsKey {X} old key new = (z : X) → Contains new z ↔ (Contains old z ⊎ (z ≡ key))
+
+-- the names of these numbers
+abbrev pub Spells : List (List ℕ) → List ℕ → List (List ℕ) → Type 0
+Spells names numbers key = AllZip (λ n a. slice_get names n ≡ Some a) numbers key
+
+-- the strictly rising list of the keys by name of these keys by number
+pub record AreSpelled (names : List (List ℕ)) (found : List (List ℕ)) (keys : List (List (List ℕ))) : Type 0 where
+  pub rising : IsStrictlySortedBy key_cmp keys
+  pub members : (key : List (List ℕ)) → Contains keys key ↔ ((numbers : List ℕ) × Contains found numbers × Spells names numbers key)

@@ -1,0 +1,120 @@
+//! The answers of a query.
+ghost use Rattle.std.specs.Prelude.{◌≡◌, ◌≢◌, ◌<◌, ◌⊎◌, ◌↔◌, ℕ, List, All, AllPairs, Contains, IfOk, MatchOption, OnOk, length};
+ghost use Rattle.std.specs.Bool.{OnTrue, OnFalse};
+ghost use Rattle.dl_base.specs.Ontology.{Terminology, IsTerminology};
+ghost use Rattle.dl_base.specs.Query.{Question, IsQuery};
+ghost use Rattle.dl_base.specs.Answers.{AreAnswers};
+ghost use Rattle.dl_base.specs.Completion.{AreCompleted};
+ghost use Rattle.dl_base.specs.declared.concept.Role.{Role as AnyRole};
+ghost use Rattle.dl_base.specs.declared.element.Elem.TheVariants as elem;
+ghost use Rattle.dl_base.specs.declared.row.NamedRow.{NamedRow as AnyRow};
+ghost use Rattle.answer_core.specs.AnswerLaws.{HasNoSuccessorHead};
+ghost use Rattle.answer_core.specs.Binding.{IsBoundTo};
+ghost use Rattle.answer_core.specs.Found.{IsFoundKey, IsOf, Reads};
+ghost use Rattle.answer_core.specs.Keys.{AreKeys};
+
+use crate::bound::Bound;
+use crate::fixed::{fixed_numbers, has_names};
+use crate::number_keys::NumberKeys;
+use dl_base::{Elem, Items, Keys, NameBook, Tables};
+use join_ops::Matches;
+use std::alloc::{AllocError, Global};
+
+/// The keys of the matches that have individuals of the book at the answer places and each name of the query on its own
+/// individual, in order, each once. In completed tables of an ontology in which no inclusion says that something has a
+/// successor these are the certain answers.
+///
+/// It takes memory for the keys, and none for further matches of a key.
+pub fn answers<T: Tables>(
+    alloc: Global,
+    t: &T,
+    individuals: &NameBook,
+    b: &Bound,
+) -> Result<Keys, AllocError>
+    ensures keys { (o : Terminology) (q : Question) → IsTerminology o → IsQuery q → IsBoundTo o q b.now
+        → IfOk result (AreKeys o (T.rows t.now) individuals.now q) }
+    ensures certain { (o : Terminology) (rows : List AnyRow) (generation : AnyRole → ℕ) (q : Question)
+        → IsTerminology o → IsQuery q → IsBoundTo o q b.now → HasNoSuccessorHead o
+        → AreCompleted o rows individuals.now generation (T.rows t.now) → IfOk result (AreAnswers o rows q) }
+{
+    if !has_names(individuals, &b.shape) {
+        return Ok(Items::new(alloc));
+    }
+    let fixed = fixed_numbers(alloc, individuals, &b.shape)?;
+    let found = found_keys(alloc, t, b, fixed.as_slice(), individuals.len())?;
+    found.spelled(alloc, individuals)
+}
+
+/// The keys by number of the matches that place the fixed terms so, over individuals whose numbers are below `count`.
+fn found_keys<T: Tables>(
+    alloc: Global,
+    t: &T,
+    b: &Bound,
+    fixed: &[Option<u32>],
+    count: usize,
+) -> Result<NumberKeys, AllocError>
+    requires { length fixed.now ≡ length b.now.shape.terms }
+    ensures { IfOk result (λ found. (numbers : List ℕ) → Contains found numbers ↔ IsFoundKey (T.rows t.now) b.now fixed.now count numbers) }
+{
+    let places = b.answers.items();
+    let mut key = vec![in alloc; 0u32; places.len()]?;
+    let mut found = NumberKeys::new(alloc);
+    let mut matches = Matches::new(alloc, &b.shape, fixed)?;
+    while matches.advance(t) {
+        add_key(
+            alloc,
+            &mut found,
+            matches.images(),
+            places,
+            count,
+            key.as_mut_slice(),
+        )?;
+    }
+    Ok(found)
+}
+
+/// Adds the key that the match has at the places, where all of it are individuals whose numbers are below `count`.
+/// `key` is where it is read into.
+fn add_key(
+    alloc: Global,
+    found: &mut NumberKeys,
+    images: &[Elem],
+    places: &[u32],
+    count: usize,
+    key: &mut [u32],
+) -> Result<(), AllocError>
+    requires places { All (λ p. p < length images.now) places.now }
+    requires room { length key.old ≡ length places.now }
+    ensures { OnOk result ((numbers : List ℕ) → Contains found.new numbers ↔ (Contains found.old numbers ⊎ Reads images.now places.now count numbers)) }
+{
+    if read_key(images, places, count, key) {
+        found.add(alloc, key)?;
+    }
+    Ok(())
+}
+
+/// Whether all terms at the places have individuals whose numbers are below `count`. Then `key` has these numbers.
+fn read_key(images: &[Elem], places: &[u32], count: usize, key: &mut [u32]) -> bool
+    requires places { All (λ p. p < length images.now) places.now }
+    requires room { length key.old ≡ length places.now }
+    ensures read { OnTrue result (Reads images.now places.now count key.new) }
+    ensures none { OnFalse result ((numbers : List ℕ) → Reads images.now places.now count numbers → ⊥) }
+{
+    for i in 0..places.len() {
+        let Some(number) = individual(images[places[i] as usize], count) else {
+            return false;
+        };
+        key[i] = number;
+    }
+    true
+}
+
+/// The number of an individual, if it is below `count`.
+fn individual(e: Elem, count: usize) -> Option<u32>
+    ensures { MatchOption result ((n : ℕ) → IsOf count e n → ⊥) (IsOf count e) }
+{
+    match e {
+        Elem::Named(number) if (number as usize) < count => Some(number),
+        _ => None,
+    }
+}

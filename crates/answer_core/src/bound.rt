@@ -1,0 +1,74 @@
+//! Queries by numbers, with the terms at their answer places.
+ghost use Rattle.std.specs.Prelude.{◌≡◌, ◌↔◌, All, Contains, IfOk, IfErr, IsTrue, Some, slice_get};
+ghost use Rattle.std.specs.List.{AllZip};
+ghost use Rattle.dl_base.specs.declared.query.Term.TheVariants as term;
+ghost use Rattle.query_shape.specs.ShapeFault.{IsShapeFault};
+ghost use Rattle.answer_core.specs.Binding.{IsBoundTo};
+
+use dl_base::{Items, Name, Ontology, Query, Tables, Term};
+use query_shape::{Shape, ShapeError, shape};
+use std::alloc::{AllocError, Global};
+use std::marker::Model;
+
+/// The shape of a query, with the numbers of the terms at its answer places.
+#[derive(Debug, Drop)]
+pub struct Bound {
+    pub(crate) shape: Shape,
+    pub(crate) answers: Items<u32>,
+}
+
+impl Model for Bound {
+    ghost use Rattle.answer_core.specs.Binding.{BoundQuery, IsBound};
+
+    ghost Value = { BoundQuery };
+
+    ghost view = { λ b. record { shape = b.shape; answers = b.answers } };
+
+    ghost invariant = { λ b. IsBound (record { shape = b.shape; answers = b.answers }) };
+}
+
+/// The query by the numbers of its terms and by the places of the ontology's names. `UnknownConcept` and `UnknownRole`
+/// tell the name of the first atom whose name the ontology lacks, and come exactly where there is one.
+pub fn bind<T: Tables>(alloc: Global, q: &Query, o: &Ontology, _t: &T) -> Result<Bound, ShapeError>
+    ensures ok { IfOk result (IsBoundTo o.now q.now) }
+    ensures err { IfErr result (IsShapeFault o.now q.now) }
+{
+    let shape = shape(alloc, q, o)?;
+    let answers = variable_numbers(alloc, &shape, q.answers())?;
+    Ok(Bound { shape, answers })
+}
+
+/// The numbers of these variables among the terms.
+fn variable_numbers(alloc: Global, shape: &Shape, vars: &[Name]) -> Result<Items<u32>, AllocError>
+    requires { All (λ v. Contains shape.now.terms (term.Var v)) vars.now }
+    ensures { IfOk result (AllZip (λ v n. slice_get shape.now.terms n ≡ Some (term.Var v)) vars.now) }
+{
+    let mut numbers = Items::new(alloc);
+    for var in vars {
+        numbers.push(variable_number(shape, var))?;
+    }
+    Ok(numbers)
+}
+
+/// The number of a variable that is among the terms.
+fn variable_number(shape: &Shape, var: &Name) -> u32
+    requires { Contains shape.now.terms (term.Var var.now) }
+    ensures { slice_get shape.now.terms result ≡ Some (term.Var var.now) }
+{
+    for number in 0..shape.terms() as u32 {
+        if is_variable(shape.term(number), var) {
+            return number;
+        }
+    }
+    unreachable!()
+}
+
+/// Whether the candidate is the variable of this name.
+fn is_variable(candidate: &Term, name: &Name) -> bool
+    ensures { IsTrue result ↔ (candidate.now ≡ term.Var name.now) }
+{
+    match candidate {
+        Term::Var(known) => known == name,
+        Term::Named(_) => false,
+    }
+}
