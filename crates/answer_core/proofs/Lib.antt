@@ -4,3 +4,5 @@ pub mod KeyLemmas
 pub mod ListLemmas
 pub mod KeySets
 pub mod TermLemmas
+pub mod SpellLemmas
+pub mod ReadLemmas

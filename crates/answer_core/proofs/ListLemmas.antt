@@ -1,6 +1,7 @@
 -- Lists that go together, place by place.
-use Rattle.std.proofs.Common.{◌≡◌, ℕ, zero, suc, ◌+◌, ◌<◌, List, [], ◌∷◌, ◌++◌, length, take, get_or, Contains, slice_get, Some, None, refl, sym, ◌∙◌, ap, subst, arith, add-one}
+use Rattle.std.proofs.Common.{◌≡◌, ℕ, zero, suc, ◌+◌, ◌<◌, List, [], ◌∷◌, ◌++◌, map, length, take, get_or, Contains, slice_get, Some, None, refl, sym, ◌∙◌, ap, subst, arith, add-one}
 use Rattle.std.specs.List.{AllZip}
+use Rattle.std.proofs.lemmas.List.{append-nil}
 use Rattle.std.proofs.lemmas.Option.{slice_get-get_or, slice_get_within, get_or_from_slice_get}
 
 -- an item is at some place
@@ -56,3 +57,7 @@ zip_each R [] [] long each = tt
 zip_each R [] (y ∷ ys) long each = absurd (omega (arith, long))
 zip_each R (x ∷ xs) [] long each = absurd (omega (arith, long))
 zip_each R (x ∷ xs) (y ∷ ys) long each = (each 0 x y refl refl, zip_each R xs ys (omega (arith, long)) (λ k. each (suc k)))
+
+-- nothing is left
+pub all_taken : {K X : Type 0} (f : K → X) (done all : List X) (left : List K) → done ++ map f left ≡ all → left ≡ [] → done ≡ all
+all_taken f done all left whole none = sym (append-nil done) ∙ (ap (λ ks. done ++ map f ks) (sym none) ∙ whole)
