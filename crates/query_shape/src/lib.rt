@@ -2,5 +2,7 @@
 #![tactic(auto)]
 
 mod layout;
+mod numbering;
 
 pub use layout::{Shape, ShapeAtom};
+pub use numbering::{ShapeError, shape};
