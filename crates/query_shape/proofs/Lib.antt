@@ -1,2 +1,3 @@
 pub mod PlaceLemmas
 pub mod NumberingLemmas
+pub mod MatchLemmas

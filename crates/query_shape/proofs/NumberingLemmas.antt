@@ -146,7 +146,8 @@ occur_from (new_term {all = before} {distinct = kept} u o absent) t c = by (Cont
     by (inl d) rec = Contains-append_left before (u ∷ []) t (rec d)
     by (inr e) rec = subst (λ (v : Term). Contains (before ++ u ∷ []) v) e (Contains-push before u)
 
-occur_distinct : {all distinct : List Term} → Occur all distinct → AllPairs (λ t u. t ≢ u) distinct
+-- the terms of a layout are distinct
+pub occur_distinct : {all distinct : List Term} → Occur all distinct → AllPairs (λ t u. t ≢ u) distinct
 occur_distinct no_term = λ i j d lt below. absurd (omega (arith, below))
 occur_distinct (known_term {all = before} {distinct = kept} u o there) = occur_distinct o
 occur_distinct (new_term {all = before} {distinct = kept} u o absent) =
