@@ -1,0 +1,5 @@
+pub mod Rooms
+pub mod Weights
+pub mod Beyond
+pub mod LevelLemmas
+pub mod SearchSteps
