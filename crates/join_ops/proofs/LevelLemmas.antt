@@ -1,18 +1,16 @@
 -- How a search goes from level to level.
-use Rattle.std.proofs.Common.{◌≡◌, ◌≤◌, ◌<◌, ◌+◌, ℕ, zero, suc, ◌⊎◌, inl, inr, List, [], ◌∷◌, ◌++◌, Option, Some, None, length, map, Contains, slice_get, refl, sym, ap, ◌∙◌, subst, arith, append_assoc}
+use Rattle.std.proofs.Common.{◌≡◌, ◌≤◌, ◌<◌, ℕ, zero, suc, ◌⊎◌, inl, inr, List, [], ◌∷◌, ◌++◌, Option, Some, None, length, map, Contains, slice_get, refl, sym, ap, ◌∙◌, subst, arith, append_assoc}
 use Rattle.std.proofs.lemmas.Option.{slice_get-map, slice_get_within}
 use Rattle.std.specs.Option.{option_map}
-use Rattle.std.specs.Cmp.Lexicographic.{slice_cmp}
-use Rattle.std.specs.declared.cmp.Ordering.{Ordering}
-use Rattle.std.specs.declared.cmp.Ordering.TheVariants.{Less, Equal, Greater}
+use Rattle.std.specs.declared.cmp.Ordering.TheVariants.{Greater}
 use Rattle.dl_base.specs.Tables.{TableRow, IsAbove, IsLeastAbove, elem_cmp}
 use Rattle.dl_base.specs.declared.element.Elem.{Elem}
 use Rattle.dl_base.specs.declared.element.Elem.TheVariants as elem
-use Rattle.query_shape.specs.Shape.{HoldsAt, IsTermOf, IsBelow}
+use Rattle.query_shape.specs.Shape.{HoldsAt, IsBelow}
 use Rattle.query_shape.specs.declared.layout.ShapeAtom.{ShapeAtom}
 use Rattle.query_shape.specs.declared.layout.ShapeAtom.TheVariants as shape
-use Rattle.join_ops.specs.Joins.{Place, Start, Behind, End, IsFound, IsBehind}
-use Rattle.join_ops.specs.Levels.{fixed_of, Offers, IsWithin, Serves, IsSource, AreSources, PassesAt, Fits, IsBeyond, IsFront, IsAt, IsLeast, IsLast, IsSearch}
+use Rattle.join_ops.specs.Joins.{Place, Start, Behind, IsFound, IsBehind}
+use Rattle.join_ops.specs.Levels.{fixed_of, Offers, IsWithin, IsSource, AreSources, Fits, IsBeyond, IsFront, IsAt, IsLeast}
 use Rattle.join_ops.specs.declared.source.Source.{Source}
 use Rattle.join_ops.specs.declared.source.Source.TheVariants as source
 use Rattle.join_ops.proofs.Beyond.{deeper_beyond, deeper_within, back_beyond, back_within, last_least, last_beyond, behind_beyond, beyond_behind}
@@ -67,7 +65,7 @@ named_is (source.Concept c) n h = absurd cc
 named_is (source.Outgoing r) n h = absurd cc
 named_is (source.Edge r m) n h = absurd cc
 
-last_or : (n k : ℕ) → n < suc k → (n < k) ⊎ (k ≡ n)
+pub last_or : (n k : ℕ) → n < suc k → (n < k) ⊎ (k ≡ n)
 last_or zero zero below = inr refl
 last_or zero (suc k) below = inl (omega arith)
 last_or (suc n) zero below = absurd (omega arith)
@@ -127,6 +125,7 @@ module _ (table : List TableRow) (atoms : List ShapeAtom) (sources : List Source
           by (inl less) (inl less') = holds_more table front (e ∷ []) (shape.Role r n m) (is.atoms_hold (shape.Role r n m) has (less, less'))
           by (inr same) other = fits.passes (shape.Role r n m) has (inl same) below
           by (inl less) (inr same) = fits.passes (shape.Role r n m) has (inr same) below
+
       term : (k n : ℕ) → k < suc (length front) → slice_get (map fixed_of sources) k ≡ Some (Some n) → slice_get (front ++ e ∷ []) k ≡ Some (elem.Named n)
       term k n below fixed = by (last_or k (length front) below)
         where

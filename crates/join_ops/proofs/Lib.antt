@@ -3,3 +3,7 @@ pub mod Weights
 pub mod Beyond
 pub mod LevelLemmas
 pub mod SearchSteps
+pub mod SourceLemmas
+pub mod LeftLemmas
+pub mod Decisions
+pub mod AllFound

@@ -1,5 +1,5 @@
 -- How many elements of a list are above one, which bounds how often a search may go on.
-use Rattle.std.proofs.Common.{◌≡◌, ◌≤◌, ◌<◌, ◌+◌, ℕ, zero, suc, ◌⊎◌, inl, inr, List, [], ◌∷◌, ◌++◌, Option, Some, None, length, Contains, slice_get, refl, sym, ◌∙◌, ap, subst, arith, append_assoc, true, false}
+use Rattle.std.proofs.Common.{◌≡◌, ◌≤◌, ◌+◌, ℕ, zero, suc, ◌⊎◌, inl, inr, List, [], ◌∷◌, ◌++◌, Option, Some, None, length, Contains, slice_get, refl, sym, subst, arith, append_assoc, true, false}
 use Rattle.std.specs.declared.cmp.Ordering.{Ordering}
 use Rattle.std.specs.declared.cmp.Ordering.TheVariants.{Less, Equal, Greater}
 use Rattle.std.proofs.lemmas.Cmp.{tied_itself}
@@ -7,7 +7,7 @@ use Rattle.dl_base.specs.Tables.{TableRow, ConceptRow, RoleRow, edge_row, turned
 use Rattle.dl_base.specs.declared.concept.Role.{Role}
 use Rattle.dl_base.specs.declared.element.Elem.{Elem}
 use Rattle.dl_base.specs.declared.element.Elem.TheVariants as elem
-use Rattle.dl_base.proofs.ElemLemmas.{elem_total, elem_same}
+use Rattle.dl_base.proofs.ElemLemmas.{elem_total}
 use Rattle.dl_base.proofs.RisingLemmas.{contains_cases, contains_later, contains_first}
 use Rattle.join_ops.specs.Levels.{Offers}
 use Rattle.join_ops.specs.declared.source.Source.{Source}

@@ -1,17 +1,17 @@
 -- The steps of a search over the list in which it keeps the images.
-use Rattle.std.proofs.Common.{◌≡◌, ◌≤◌, ◌<◌, ◌+◌, ◌-◌, ℕ, suc, List, [], ◌∷◌, ◌++◌, Option, Some, None, length, map, take, slice_get, get_or, refl, sym, ap, ◌∙◌, subst, arith, add-one}
+use Rattle.std.proofs.Common.{◌≡◌, ◌≤◌, ◌<◌, ◌+◌, ◌-◌, ℕ, suc, List, [], ◌∷◌, ◌++◌, Option, Some, None, length, map, take, slice_get, get_or, sym, ap, ◌∙◌, subst, arith}
 use Rattle.std.proofs.Math.ListN.{set}
 use Rattle.std.proofs.Math.Seq.{take-length, take-suc}
 use Rattle.std.proofs.lemmas.List.{take_more_set, length-take-le, length-set}
 use Rattle.std.proofs.lemmas.Option.{slice_get-get_or}
-use Rattle.dl_base.specs.Tables.{TableRow, IsAbove, IsLeastAbove}
+use Rattle.dl_base.specs.Tables.{TableRow, IsLeastAbove}
 use Rattle.dl_base.specs.declared.element.Elem.{Elem}
 use Rattle.query_shape.specs.declared.layout.ShapeAtom.{ShapeAtom}
 use Rattle.join_ops.specs.Joins.{Place, Start, Behind, IsFound, IsBehind}
 use Rattle.join_ops.specs.Levels.{fixed_of, Fits, IsAt, IsLeast, IsSearch}
 use Rattle.join_ops.specs.declared.source.Source.{Source}
 use Rattle.join_ops.proofs.LevelLemmas.{goes_deeper, goes_back, gives_least, gives_none, starts, stands}
-use Rattle.join_ops.proofs.Rooms.{room, room_falls, known_all, offered_known_all}
+use Rattle.join_ops.proofs.Rooms.{room_falls, known_all, offered_known_all}
 use Rattle.join_ops.proofs.Weights.{weight, deeper_falls, back_falls}
 
 source_at : (sources : List Source) (front : List Elem) (level : ℕ) (d : Source) → length front ≡ level → level < length sources → slice_get sources (length front) ≡ Some (get_or sources level d)
@@ -41,7 +41,7 @@ module _ (table : List TableRow) (atoms : List ShapeAtom) (sources : List Source
       → IsAt table atoms (map fixed_of sources) place (take level images) after → IsAt table atoms (map fixed_of sources) place (take (level + 1) (set images level e)) None
   deeper_step place after e d more least is =
       let next = goes_deeper table atoms sources search.sources_are place (take level images) after e (get_or sources level d) (source_at sources (take level images) level d long within)
-          (omega (arith, long, search.each, more, length-set images level e)) least is in
+      (omega (arith, long, search.each, more, length-set images level e)) least is in
       rw (take_more_set images level e below) next
 
   pub deeper_smaller : (after : Option Elem) (e : Elem) (d : Source) → (level + 1 ≡ length (set images level e) → ⊥)
@@ -59,7 +59,7 @@ module _ (table : List TableRow) (atoms : List ShapeAtom) (sources : List Source
       → IsAt table atoms (map fixed_of sources) place (take level images) after → IsLeast table atoms (map fixed_of sources) place (set images level e)
   last_step place after e d last least is =
       let found = gives_least table atoms sources search.sources_are place (take level images) after e (get_or sources level d) (source_at sources (take level images) level d long within)
-          (omega (arith, long, search.each, last, length-set images level e)) (λ a c. rw search.each (search.below a c)) least is in
+      (omega (arith, long, search.each, last, length-set images level e)) (λ a c. rw search.each (search.below a c)) least is in
       rw (set_last images level e last below) found
 
   pub back_step : (place : Place) (after : Option Elem) (d : Source) (x : Elem) → (level ≡ 0 → ⊥)
@@ -68,8 +68,8 @@ module _ (table : List TableRow) (atoms : List ShapeAtom) (sources : List Source
   back_step place after d x some none is =
       let front = take_back images level x below some in
       goes_back table atoms sources search.sources_are place (take (level - 1) images) (get_or images (level - 1) x) after (get_or sources level d)
-          (rw (← front) (source_at sources (take level images) level d long within))
-          (rw (← front) none) (rw (← front) is)
+      (rw (← front) (source_at sources (take level images) level d long within))
+      (rw (← front) none) (rw (← front) is)
 
   pub back_smaller : (after : Option Elem) (x : Elem) → (level ≡ 0 → ⊥)
       → weight (known_all table sources) (take (level - 1) images) (Some (get_or images (level - 1) x)) (length images - (level - 1)) < weight (known_all table sources) (take level images) after (length images - level)
@@ -86,7 +86,7 @@ module _ (table : List TableRow) (atoms : List ShapeAtom) (sources : List Source
       let at : slice_get sources 0 ≡ Some (get_or sources level d) = ap (λ (n : ℕ). slice_get sources n) (sym first) ∙ slice_get-get_or sources level d within in
       let front : take level images ≡ [] = ap (λ (n : ℕ). take n images) first in
       gives_none table atoms sources search.sources_are place after (get_or sources level d) at
-          (rw (← front) none) (rw (← front) is)
+      (rw (← front) none) (rw (← front) is)
 
 pub search_along : (atoms : List ShapeAtom) (sources : List Source) (m n : ℕ) → m ≡ n → IsSearch atoms sources m → IsSearch atoms sources n
 search_along atoms sources m n same search = subst (λ (k : ℕ). IsSearch atoms sources k) same search

@@ -1,8 +1,8 @@
 -- A number that falls with each step of a search by levels.
-use Rattle.std.proofs.Common.{◌≡◌, ◌≤◌, ◌<◌, ◌+◌, ◌*◌, ◌^◌, ℕ, zero, suc, List, [], ◌∷◌, ◌++◌, Option, Some, None, length, refl, ap, ◌∙◌, arith, mul_assoc, mul_comm}
+use Rattle.std.proofs.Common.{◌≡◌, ◌≤◌, ◌<◌, ◌+◌, ◌*◌, ◌^◌, ℕ, suc, List, [], ◌∷◌, ◌++◌, Option, Some, None, length, refl, ◌∙◌, arith, mul_assoc, mul_comm}
 use Rattle.std.proofs.Math.Nat.{mul-le-mul_left, mul-lt-mul_of_pos_right, one-le-pow, pow-suc}
 use Rattle.dl_base.specs.declared.element.Elem.{Elem}
-use Rattle.join_ops.proofs.Rooms.{room, room_most, room_none}
+use Rattle.join_ops.proofs.Rooms.{room, room_none}
 
 base : List Elem → ℕ
 base known = 2 * length known + 3

@@ -37,11 +37,7 @@ impl Model for Matches {
 impl Matches {
     /// The search for the matches that place each fixed term on the individual of its number. In any table it begins
     /// with all of them left.
-    pub fn new(
-        alloc: Global,
-        s: &Shape,
-        fixed: &[Option<u32>],
-    ) -> Result<Matches, AllocError>
+    pub fn new(alloc: Global, s: &Shape, fixed: &[Option<u32>]) -> Result<Matches, AllocError>
         requires { length fixed.now ≡ length s.now.terms }
         ensures { (table : List TableRow) → IfOk result (λ m. (left : List (List AnyElem)) × AreLeft table m left × AreMatches table s.now fixed.now left) }
     {

@@ -100,9 +100,10 @@ fn offer(atom: &ShapeAtom, term: usize) -> Option<Source>
     ensures { MatchOption result (IsTermOf term atom.now → ⊥) (λ s. Serves term s atom.now) }
 {
     match *atom {
-        ShapeAtom::Concept { concept, term: member } if member as usize == term => {
-            Some(Source::Concept(concept))
-        }
+        ShapeAtom::Concept {
+            concept,
+            term: member,
+        } if member as usize == term => { Some(Source::Concept(concept)) }
         ShapeAtom::Role { role, from, .. } if from as usize == term => {
             Some(Source::Outgoing(role))
         }

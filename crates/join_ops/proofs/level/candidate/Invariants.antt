@@ -1,4 +1,3 @@
-use Rattle.std.proofs.Common.{◌≡◌}
 use Rattle.dl_base.specs.Tables.{IsAbove}
 use Rattle.dl_base.specs.declared.element.Elem.{Elem}
 use Rattle.join_ops.specs.Levels.{Fits}

@@ -1,5 +1,4 @@
-use Rattle.std.proofs.Common.{◌≡◌, ◌<◌, ◌-◌, ◌+◌, length, arith, sym, subst}
-use Rattle.join_ops.specs.Levels.{IsSearch}
+use Rattle.std.proofs.Common.{arith, sym}
 use Rattle.join_ops.proofs.SearchSteps.{deeper_step, deeper_smaller, last_step, back_step, back_smaller, none_step, search_along, deeper_below}
 use Rattle.join_ops.proofs.search.search.Goals as goal
 

@@ -1,4 +1,4 @@
-use Rattle.std.proofs.Common.{◌≡◌, ◌<◌, ◌-◌, length, take, map}
+use Rattle.std.proofs.Common.{◌<◌, ◌-◌, length, take, map}
 use Rattle.join_ops.specs.Joins.{Place}
 use Rattle.join_ops.specs.Levels.{IsAt, fixed_of}
 use Rattle.join_ops.proofs.Rooms.{known_all}
