@@ -1,3 +1,5 @@
 pub mod OrderLemmas
 pub mod SearchLemmas
 pub mod LeastLemmas
+pub mod PartLemmas
+pub mod CountLemmas

@@ -62,8 +62,9 @@ pub fn of_concept(members: &[Member], concept: u32) -> &[Member]
     ensures same { (m : AnyMember) → Contains result.now m ↔ (Contains members.now m × (m.concept ≡ concept)) }
 {
     let start = members.partition_point(|m| m.concept < concept);
-    let end = members.partition_point(|m| m.concept <= concept);
-    &members[start..end]
+    let rest = &members[start..];
+    let end = rest.partition_point(|m| m.concept <= concept);
+    &rest[..end]
 }
 
 /// The role rows of this role name.
@@ -73,8 +74,9 @@ pub fn of_role(edges: &[Edge], role: u32) -> &[Edge]
     ensures same { (x : AnyEdge) → Contains result.now x ↔ (Contains edges.now x × (x.role ≡ role)) }
 {
     let start = edges.partition_point(|e| e.role < role);
-    let end = edges.partition_point(|e| e.role <= role);
-    &edges[start..end]
+    let rest = &edges[start..];
+    let end = rest.partition_point(|e| e.role <= role);
+    &rest[..end]
 }
 
 /// From how many individuals role rows of one role name lead.
