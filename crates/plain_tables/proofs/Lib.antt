@@ -3,3 +3,4 @@ pub mod SearchLemmas
 pub mod LeastLemmas
 pub mod PartLemmas
 pub mod CountLemmas
+pub mod BuildLemmas
