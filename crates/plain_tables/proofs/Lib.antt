@@ -4,3 +4,4 @@ pub mod LeastLemmas
 pub mod PartLemmas
 pub mod CountLemmas
 pub mod BuildLemmas
+pub mod HasLemmas

@@ -1,8 +1,9 @@
 //! The tables.
 ghost use Rattle.std.specs.Prelude.{◌≡◌, ◌≢◌, ◌↔◌, IfOk, Contains, AllPairs, length};
+ghost use Rattle.std.specs.List.{filter_map};
 ghost use Rattle.dl_base.specs.Tables.{TableRow};
 ghost use Rattle.dl_base.specs.declared.row.Row.{Row as AnyRow};
-ghost use Rattle.plain_tables.specs.Kept.{table_row, AreEdges};
+ghost use Rattle.plain_tables.specs.Kept.{table_row, member_of, edge_of, AreMembers, AreEdges};
 
 use crate::rows::{Edge, Member};
 use crate::{build, search};
@@ -55,7 +56,14 @@ impl PlainTables {
         self.members.len() + self.edges.len()
     }
 
-    /// The role rows read in the role's direction.
+    /// The concept rows.
+    fn members(&self) -> &[Member]
+        ensures { AreMembers self.now result.now }
+    {
+        self.members.as_slice()
+    }
+
+    /// The role rows, or these read from the other end.
     fn edges(&self, inverse: bool) -> &[Edge]
         ensures { AreEdges self.now inverse result.now }
     {
@@ -71,9 +79,10 @@ impl Tables for PlainTables {
     ghost rows = { λ t. t };
 
     fn has_concept(&self, concept: u32, e: Elem) -> bool {
+        let members = self.members();
         match e {
             Elem::Named(individual) => search::has_member(
-                self.members.as_slice(),
+                members,
                 Member {
                     concept,
                     individual,
@@ -84,16 +93,15 @@ impl Tables for PlainTables {
     }
 
     fn has_role(&self, role: u32, from: Elem, to: Elem) -> bool {
-        match (from, to) {
-            (Elem::Named(from), Elem::Named(to)) => {
-                search::has_edge(self.edges(false), Edge { role, from, to })
-            }
-            _ => false,
-        }
+        let edges = self.edges(false);
+        let (Elem::Named(from), Elem::Named(to)) = (from, to) else {
+            return false;
+        };
+        search::has_edge(edges, Edge { role, from, to })
     }
 
     fn next_concept(&self, concept: u32, after: Option<Elem>) -> Option<Elem> {
-        let member = search::first_member(self.members.as_slice(), concept, after)?;
+        let member = search::first_member(self.members(), concept, after)?;
         if member.concept == concept {
             Some(Elem::Named(member.individual))
         } else {
@@ -111,10 +119,11 @@ impl Tables for PlainTables {
     }
 
     fn next_edge(&self, role: Role, from: Elem, after: Option<Elem>) -> Option<Elem> {
+        let edges = self.edges(role.inverse);
         let Elem::Named(from) = from else {
             return None;
         };
-        let edge = search::first_target(self.edges(role.inverse), role.name, from, after)?;
+        let edge = search::first_target(edges, role.name, from, after)?;
         if edge.role == role.name && edge.from == from {
             Some(Elem::Named(edge.to))
         } else {
@@ -125,7 +134,7 @@ impl Tables for PlainTables {
     fn count(&self, basic: Basic) -> u64 {
         match basic {
             Basic::Concept(concept) => {
-                search::of_concept(self.members.as_slice(), concept).len() as u64
+                search::of_concept(self.members(), concept).len() as u64
             }
             Basic::Exists(role) => {
                 let edges = search::of_role(self.edges(role.inverse), role.name);
@@ -136,7 +145,10 @@ impl Tables for PlainTables {
 }
 
 /// The concept rows and the role rows of the list.
-fn split(alloc: Global, rows: RowList) -> Result<(Vec<Member>, Vec<Edge>), AllocError> {
+fn split(alloc: Global, rows: RowList) -> Result<(Vec<Member>, Vec<Edge>), AllocError>
+    ensures members { IfOk result (λ parts. parts.0.items ≡ filter_map member_of rows) }
+    ensures edges { IfOk result (λ parts. parts.1.items ≡ filter_map edge_of rows) }
+{
     let rows = rows.into_vec();
     let members = build::members_of(alloc, rows.as_slice())?;
     let edges = build::edges_of(alloc, rows.as_slice())?;
