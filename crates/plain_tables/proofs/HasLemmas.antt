@@ -29,8 +29,8 @@ map_apart cmp f [] rises apart = λ i j d less below. absurd (omega arith)
 map_apart cmp f (x ∷ xs) rises apart =
     let less : All (λ y. cmp x y ≡ Less) xs = All-from_recursion (λ y. cmp x y ≡ Less) xs rises.0 in
     AllPairs-cons (λ a b. a ≢ b) (f x) (map f xs)
-        (All-map (λ b. f x ≢ b) f xs (λ k d below. apart x (get_or xs k d) (contains_first x xs) (contains_later x xs _ (Contains-get_or xs k d below)) (less k d below)))
-        (map_apart cmp f xs rises.1 (λ y z cy cz. apart y z (contains_later x xs y cy) (contains_later x xs z cz)))
+    (All-map (λ b. f x ≢ b) f xs (λ k d below. apart x (get_or xs k d) (contains_first x xs) (contains_later x xs _ (Contains-get_or xs k d below)) (less k d below)))
+    (map_apart cmp f xs rises.1 (λ y z cy cz. apart y z (contains_later x xs y cy) (contains_later x xs z cz)))
 
 pub length_same : {X Y : Type 0} (f : X → Y) (xs : List X) → length (map f xs) ≡ length xs
 length_same f [] = refl
@@ -112,4 +112,3 @@ module _ (table : List TableRow) (edges : List Edge) where
         let found = (source_are table r edges are).only e has in
         (found.0, (same found.0).1 (found.1, found.2), found.3),
   )) counted
-

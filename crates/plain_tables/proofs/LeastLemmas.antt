@@ -83,6 +83,7 @@ module _ (c : ℕ) (after : Option Elem) where
       at_concept : (m n : Member) → c ≤ m.concept → n.concept ≡ c → ((m.concept < n.concept) ⊎ ((m.concept ≡ n.concept) × (m.individual ≤ n.individual))) → m.concept ≡ c
       at_concept m n low key (inl l) = omega arith
       at_concept m n low key (inr l) = l.0 ∙ key
+
       by_number : (m n : Member) → m.concept ≡ c → n.concept ≡ c → ((m.concept < n.concept) ⊎ ((m.concept ≡ n.concept) × (m.individual ≤ n.individual))) → m.individual ≤ n.individual
       by_number m n k l (inl less) = absurd (omega arith)
       by_number m n k l (inr less) = less.1
@@ -98,6 +99,7 @@ module _ (c : ℕ) (after : Option Elem) where
       at_role : (x y : Edge) → c ≤ x.role → y.role ≡ c → ((x.role < y.role) ⊎ ((x.role ≡ y.role) × ((x.from < y.from) ⊎ ((x.from ≡ y.from) × (x.to ≤ y.to))))) → x.role ≡ c
       at_role x y low key (inl l) = omega arith
       at_role x y low key (inr l) = l.0 ∙ key
+
       by_from : (x y : Edge) → x.role ≡ c → y.role ≡ c → ((x.role < y.role) ⊎ ((x.role ≡ y.role) × ((x.from < y.from) ⊎ ((x.from ≡ y.from) × (x.to ≤ y.to))))) → x.from ≤ y.from
       by_from x y k l (inl less) = absurd (omega arith)
       by_from x y k l (inr (same, inl less)) = omega arith
@@ -113,6 +115,7 @@ module _ (c : ℕ) (after : Option Elem) where
     where
       lower_from : (n : ℕ) (b : Bool) → (nat_lt n a || (nat_eq n a && b)) ≡ false → a ≤ n
       lower_from n b h = grind (arith, nat_tests)
+
       at_both : (x y : Edge) → target_passed c a after x ≡ false → c ≤ x.role → (y.role ≡ c) × (y.from ≡ a)
           → ((x.role < y.role) ⊎ ((x.role ≡ y.role) × ((x.from < y.from) ⊎ ((x.from ≡ y.from) × (x.to ≤ y.to))))) → (x.role ≡ c) × (x.from ≡ a)
       at_both x y off low key (inl l) = absurd (omega (arith, key.0))
@@ -121,6 +124,7 @@ module _ (c : ℕ) (after : Option Elem) where
           let high : a ≤ x.from = lower_from x.from _ (sym (passed_at x.role c _ role) ∙ off) in
           absurd (omega (arith, key.1))
       at_both x y off low key (inr (same, inr l)) = (same ∙ key.0, l.0 ∙ key.1)
+
       by_to : (x y : Edge) → (x.role ≡ c) × (x.from ≡ a) → (y.role ≡ c) × (y.from ≡ a)
           → ((x.role < y.role) ⊎ ((x.role ≡ y.role) × ((x.from < y.from) ⊎ ((x.from ≡ y.from) × (x.to ≤ y.to))))) → x.to ≤ y.to
       by_to x y k l (inl less) = absurd (omega (arith, k.0, l.0))

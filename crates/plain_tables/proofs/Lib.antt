@@ -5,3 +5,4 @@ pub mod PartLemmas
 pub mod CountLemmas
 pub mod BuildLemmas
 pub mod HasLemmas
+pub mod KeptLemmas

@@ -75,17 +75,23 @@ member_upto m n e = elim (then_upto (nat_cmp m.concept n.concept) _ e) [
 pub edge_less : (x y : Edge) → edge_cmp x y ≡ Less → (x.role < y.role) ⊎ ((x.role ≡ y.role) × ((x.from < y.from) ⊎ ((x.from ≡ y.from) × (x.to < y.to))))
 edge_less x y e = elim (then_less _ _ e) [
   | inl f ↦ inl (nat_less _ _ f)
-  | inr f ↦ inr (nat_same _ _ f.0, elim (then_less _ _ f.1) [
-    | inl g ↦ inl (nat_less _ _ g)
-    | inr g ↦ inr (nat_same _ _ g.0, nat_less _ _ g.1)
-  ])
+  | inr f ↦ inr (
+    nat_same _ _ f.0,
+    elim (then_less _ _ f.1) [
+      | inl g ↦ inl (nat_less _ _ g)
+      | inr g ↦ inr (nat_same _ _ g.0, nat_less _ _ g.1)
+    ],
+  )
 ]
 
 pub edge_upto : (x y : Edge) → edge_cmp x y ≢ Greater → (x.role < y.role) ⊎ ((x.role ≡ y.role) × ((x.from < y.from) ⊎ ((x.from ≡ y.from) × (x.to ≤ y.to))))
 edge_upto x y e = elim (then_upto (nat_cmp x.role y.role) _ e) [
   | inl f ↦ inl (nat_less _ _ f)
-  | inr f ↦ inr (nat_same _ _ f.0, elim (then_upto (nat_cmp x.from y.from) _ f.1) [
-    | inl g ↦ inl (nat_less _ _ g)
-    | inr g ↦ inr (nat_same _ _ g.0, nat_not_above _ _ g.1)
-  ])
+  | inr f ↦ inr (
+    nat_same _ _ f.0,
+    elim (then_upto (nat_cmp x.from y.from) _ f.1) [
+      | inl g ↦ inl (nat_less _ _ g)
+      | inr g ↦ inr (nat_same _ _ g.0, nat_not_above _ _ g.1)
+    ],
+  )
 ]

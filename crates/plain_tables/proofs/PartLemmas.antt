@@ -68,15 +68,20 @@ module _ {X : Type 0} (key : X → ℕ) (c : ℕ) (xs : List X) (s e : ℕ) (s_w
     where
       order : (n m : ℕ) → (n < m) ⊎ (m ≤ n)
       order n m = grind arith
+
       again : s ≤ k → s + (k - s) ≡ k
       again h = omega arith
+
       not_lower : ltb (key x) c ≡ true → ⊥
       not_lower h = grind (arith, nat_tests)
+
       not_over : leb (key x) c ≡ false → ⊥
       not_over h = grind (arith, nat_tests)
+
       from_start : (k < s) ⊎ (s ≤ k) → s ≤ k
       from_start (inl l) = absurd (not_lower (subst (λ (y : X). ltb (key y) c ≡ true) at (start.0 k x (omega arith) l)))
       from_start (inr h) = h
+
       to_end : get_or (drop s xs) (k - s) x ≡ x → k - s < length (drop s xs) → (k - s < e) ⊎ (e ≤ k - s) → k - s < e
       to_end rest inside (inl l) = l
       to_end rest inside (inr h) = absurd (not_over (subst (λ (y : X). leb (key y) c ≡ false) rest (end.1 (k - s) x h inside)))

@@ -53,10 +53,10 @@ module _ {X : Type 0} (cmp : X → X → Ordering) (total : IsTotalOrder cmp) (x
       → IsFirstPast cmp passed xs r
   first_past passed i r is point = elim (slice_get_cases xs i).1 [
     | inl found ↦ subst (IsFirstPast cmp passed xs) (sym (is ∙ found.2)) (
-        (i, found.1, found.3),
-        subst (λ (z : X). passed z ≡ false) found.3 (point.1 i found.0 (omega arith) found.1),
-        λ y c off. later found.0 found.1 found.3 y c (before_point passed i point y c.0 c.1 c.2 off),
-      )
+      (i, found.1, found.3),
+      subst (λ (z : X). passed z ≡ false) found.3 (point.1 i found.0 (omega arith) found.1),
+      λ y c off. later found.0 found.1 found.3 y c (before_point passed i point y c.0 c.1 c.2 off),
+    )
     | inr past ↦ subst (IsFirstPast cmp passed xs) (sym (is ∙ past.1)) (λ y c. subst (λ (z : X). passed z ≡ true) c.2 (point.0 c.0 y (omega arith) (omega (arith, c.1))))
   ]
     where

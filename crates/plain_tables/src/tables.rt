@@ -133,9 +133,7 @@ impl Tables for PlainTables {
 
     fn count(&self, basic: Basic) -> u64 {
         match basic {
-            Basic::Concept(concept) => {
-                search::of_concept(self.members(), concept).len() as u64
-            }
+            Basic::Concept(concept) => { search::of_concept(self.members(), concept).len() as u64 }
             Basic::Exists(role) => {
                 let edges = search::of_role(self.edges(role.inverse), role.name);
                 search::count_sources(edges, role.name)

@@ -21,8 +21,7 @@ returns-clause-rising g c =
 pub returns-clause-same : goal.returns-clause-same
 returns-clause-same g c = λ x.
     let is = dedup_is g.T.PartialEq.eq _ _ c.dedup.ensures.filtered in
-    let moved = c.sort_unstable.ensures.permutation in
-    (
+    let moved = c.sort_unstable.ensures.permutation in (
       λ there. Contains-permutation _ _ x (IsPermutation-sym _ _ moved) (Contains-from_dedup g.T.PartialEq.eq _ x (rw is at there)),
       λ there. rw is (Contains-dedup g.met.T.Eq.laws (λ a b e. c.requires a b (equal_from _ (sym (g.met.T.Ord.matches_eq a b) ∙ e))) _ x (Contains-permutation _ _ x moved there)),
     )

@@ -17,10 +17,10 @@ loop-edge-preserved c =
     let x : Edge = get_or edges c.loop-edge.edge-index none in
     let at : get_or edges c.loop-edge.edge-index x ≡ x = get_or_default edges c.loop-edge.edge-index x none c.loop-edge-test.true in
     counted_more edges c.args.role c.requires.rising c.requires.same c.loop-edge.edge-index c.loop-edge.last c.loop-edge.count x c.loop-edge-test.true at c.loop-edge.invariant
-        c.ne.result c.from-count.result c.ne.ensures c.from-count.ensures
+    c.ne.result c.from-count.result c.ne.ensures c.from-count.ensures
 
 pub returns : goal.returns
 returns c =
     let all : c.loop-edge.edge-index ≡ length c.args.edges.now = omega arith in
     counted_all c.args.edges.now c.args.role c.requires.rising c.requires.same c.loop-edge.last c.loop-edge.count
-        (subst (λ (n : _). Counted c.args.edges.now n c.loop-edge.last c.loop-edge.count) all c.loop-edge.invariant)
+    (subst (λ (n : _). Counted c.args.edges.now n c.loop-edge.last c.loop-edge.count) all c.loop-edge.invariant)

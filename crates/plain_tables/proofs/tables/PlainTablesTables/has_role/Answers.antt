@@ -7,8 +7,11 @@ use Rattle.plain_tables.proofs.tables.PlainTablesTables.has_role.Goals as goal
 
 pub returns : goal.returns
 returns c =
-    let both : (e f : Elem) → e ≡ elem.Named c.in-Named-Named.from → f ≡ elem.Named c.in-Named-Named.to → IsTrue c.has_edge.result ↔ Contains c.args.self.now (RoleRow c.args.role e f) = ? in
-    both c.args.from c.args.to c.in-Named-Named.is-0 c.in-Named-Named.is-1
+    subst (λ (e : Elem). IsTrue c.has_edge.result ↔ Contains c.args.self.now (RoleRow c.args.role e c.args.to)) (sym c.in-Named-Named.is-0)
+    (subst (λ (f : Elem). IsTrue c.has_edge.result ↔ Contains c.args.self.now (RoleRow c.args.role (elem.Named c.in-Named-Named.from) f)) (sym c.in-Named-Named.is-1) (
+      λ yes. role_row c.args.self.now c.edges-edges.result.now c.edges-edges.ensures c.args.role c.in-Named-Named.from c.in-Named-Named.to (c.has_edge.ensures.0 yes),
+      λ there. c.has_edge.ensures.1 (role_edge c.args.self.now c.edges-edges.result.now c.edges-edges.ensures c.args.role c.in-Named-Named.from c.in-Named-Named.to there),
+    ))
 
 pub returns-in_default : goal.returns-in_default
 returns-in_default c = (

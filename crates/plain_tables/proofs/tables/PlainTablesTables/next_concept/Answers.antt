@@ -5,14 +5,14 @@ use Rattle.plain_tables.proofs.tables.PlainTablesTables.next_concept.Goals as go
 pub returns-in_err-member : goal.returns-in_err-member
 returns-in_err-member c =
     least_none member_cmp _ _ c.args.after _ (concept_leads c.args.concept c.args.after) c.members.result.now _ (concept_are c.args.self.now c.members.result.now c.members.ensures c.args.concept)
-        c.first_member.result c.from_residual.result c.first_member.ensures c.in_err-member.was c.from_residual.ensures
+    c.first_member.result c.from_residual.result c.first_member.ensures c.in_err-member.was c.from_residual.ensures
 
 pub returns-then-member-concept : goal.returns-then-member-concept
 returns-then-member-concept c =
     least_here member_cmp _ _ c.args.after _ (concept_leads c.args.concept c.args.after) c.members.result.now _ (concept_are c.args.self.now c.members.result.now c.members.ensures c.args.concept)
-        c.in_ok-member.member c.in_ok-member.ensures c.if-member-concept.true
+    c.in_ok-member.member c.in_ok-member.ensures c.if-member-concept.true
 
 pub returns-else-member-concept : goal.returns-else-member-concept
 returns-else-member-concept c =
     least_other member_cmp _ _ c.args.after _ (concept_leads c.args.concept c.args.after) c.members.result.now _ (concept_are c.args.self.now c.members.result.now c.members.ensures c.args.concept)
-        c.in_ok-member.member c.in_ok-member.ensures c.if-member-concept.false
+    c.in_ok-member.member c.in_ok-member.ensures c.if-member-concept.false
