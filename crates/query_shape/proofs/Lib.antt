@@ -1,0 +1,3 @@
+pub mod PlaceLemmas
+pub mod NumberingLemmas
+pub mod MatchLemmas
