@@ -6,3 +6,6 @@ pub mod KeySets
 pub mod TermLemmas
 pub mod SpellLemmas
 pub mod ReadLemmas
+pub mod FoundLemmas
+pub mod RankLemmas
+pub mod LoopLemmas

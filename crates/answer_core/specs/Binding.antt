@@ -5,16 +5,17 @@ use Rattle.dl_base.specs.Ontology.{Terminology}
 use Rattle.dl_base.specs.Query.{Question}
 use Rattle.dl_base.specs.declared.query.Term.{Term}
 use Rattle.dl_base.specs.declared.query.Term.TheVariants as term
-use Rattle.query_shape.specs.Shape.{Layout, IsShapeOf}
+use Rattle.query_shape.specs.Shape.{Layout, IsLayout, IsShapeOf}
 
 -- the shape, and the numbers of the terms at the answer places
 pub record BoundQuery : Type 0 where
   pub shape : Layout
   pub answers : List ℕ
 
--- each place has the number of a term
-abbrev pub IsBound : BoundQuery → Type 0
-IsBound b = All (λ n. n < length b.shape.terms) b.answers
+-- a shape, and at each answer place the number of one of its terms
+pub record IsBound (b : BoundQuery) : Type 0 where
+  pub layout : IsLayout b.shape
+  pub within : All (λ n. n < length b.shape.terms) b.answers
 
 -- the shape is the query's, and at each answer place is the number of the variable there
 pub record IsBoundTo (o : Terminology) (q : Question) (b : BoundQuery) : Type 0 where

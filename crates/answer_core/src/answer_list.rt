@@ -60,7 +60,7 @@ fn found_keys<T: Tables>(
     let mut key = vec![in alloc; 0u32; places.len()]?;
     let mut found = NumberKeys::new(alloc);
     let mut matches = Matches::new(alloc, &b.shape, fixed)?;
-    while matches.advance(t) {
+    'matches: while matches.advance(t) {
         add_key(
             alloc,
             &mut found,
