@@ -8,6 +8,7 @@ ghost use Rattle.dl_base.specs.Completion.{AreCompleted};
 ghost use Rattle.dl_base.specs.declared.concept.Role.{Role as AnyRole};
 ghost use Rattle.dl_base.specs.declared.element.Elem.TheVariants as elem;
 ghost use Rattle.dl_base.specs.declared.row.NamedRow.{NamedRow as AnyRow};
+ghost use Rattle.query_shape.specs.Shape.{IsLayout};
 ghost use Rattle.answer_core.specs.AnswerLaws.{HasNoSuccessorHead};
 ghost use Rattle.answer_core.specs.Binding.{IsBoundTo};
 ghost use Rattle.answer_core.specs.Found.{IsFoundKey, IsOf, Reads};
@@ -18,6 +19,7 @@ use crate::fixed::{fixed_numbers, has_names};
 use crate::number_keys::NumberKeys;
 use dl_base::{Elem, Items, Keys, NameBook, Tables};
 use join_ops::Matches;
+use query_shape::Shape;
 use std::alloc::{AllocError, Global};
 
 /// The keys of the matches that have individuals of the book at the answer places and each name of the query on its own
@@ -41,25 +43,36 @@ pub fn answers<T: Tables>(
         return Ok(Items::new(alloc));
     }
     let fixed = fixed_numbers(alloc, individuals, &b.shape)?;
-    let found = found_keys(alloc, t, b, fixed.as_slice(), individuals.len())?;
+    let found = found_keys(
+        alloc,
+        t,
+        &b.shape,
+        b.answers.items(),
+        fixed.as_slice(),
+        individuals.len(),
+    )?;
     found.spelled(alloc, individuals)
 }
 
-/// The keys by number of the matches that place the fixed terms so, over individuals whose numbers are below `count`.
+/// The keys by number, at the places, of the matches that place the fixed terms so, over individuals whose numbers are
+/// below `count`.
 fn found_keys<T: Tables>(
     alloc: Global,
     t: &T,
-    b: &Bound,
+    shape: &Shape,
+    places: &[u32],
     fixed: &[Option<u32>],
     count: usize,
 ) -> Result<NumberKeys, AllocError>
-    requires { length fixed.now ≡ length b.now.shape.terms }
-    ensures { IfOk result (λ found. (numbers : List ℕ) → Contains found numbers ↔ IsFoundKey (T.rows t.now) b.now fixed.now count numbers) }
+    requires layout { IsLayout shape.now }
+    requires places { All (λ p. p < length shape.now.terms) places.now }
+    requires fixed { length fixed.now ≡ length shape.now.terms }
+    ensures { IfOk result (λ found. (numbers : List ℕ) → Contains found numbers
+        ↔ IsFoundKey (T.rows t.now) (record { shape = shape.now; answers = places.now }) fixed.now count numbers) }
 {
-    let places = b.answers.items();
     let mut key = vec![in alloc; 0u32; places.len()]?;
     let mut found = NumberKeys::new(alloc);
-    let mut matches = Matches::new(alloc, &b.shape, fixed)?;
+    let mut matches = Matches::new(alloc, shape, fixed)?;
     'matches: while matches.advance(t) {
         add_key(
             alloc,
