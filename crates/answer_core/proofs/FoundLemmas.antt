@@ -1,6 +1,7 @@
 -- The keys of a query are those that the matches of its shape spell.
-use Rattle.std.proofs.Common.{◌≡◌, ◌≢◌, ◌↔◌, ℕ, zero, suc, List, [], ◌∷◌, map, length, AllPairs, Contains, Option, Some, None, slice_get, MatchOption, refl, sym, ◌∙◌, ap, subst, arith}
+use Rattle.std.proofs.Common.{◌≡◌, ◌≢◌, ◌↔◌, ◌<◌, ℕ, zero, suc, List, [], ◌∷◌, map, length, get_or, All, AllPairs, Contains, Option, Some, None, slice_get, Result, Ok, Err, IfOk, refl, sym, ◌∙◌, ap, subst, arith}
 use Rattle.std.specs.List.{AllZip}
+use Rattle.std.proofs.lemmas.List.Elements.{All-cons, All-nil, Contains-get_or}
 use Rattle.std.proofs.lemmas.Option.{slice_get_within}
 use Rattle.dl_base.specs.Ontology.{Terminology, IsTerminology}
 use Rattle.dl_base.specs.Query.{Question, IsQuery, terms}
@@ -10,12 +11,11 @@ use Rattle.dl_base.specs.declared.concept.Role.{Role}
 use Rattle.dl_base.specs.declared.row.NamedRow.{NamedRow}
 use Rattle.dl_base.proofs.RowLemmas.{none_rising}
 use Rattle.dl_base.specs.Tables.{TableRow}
-use Rattle.dl_base.specs.Matches.{IsMatch}
 use Rattle.dl_base.specs.declared.element.Elem.{Elem}
 use Rattle.dl_base.specs.declared.element.Elem.TheVariants as elem
 use Rattle.dl_base.specs.declared.query.Term.{Term}
 use Rattle.dl_base.specs.declared.query.Term.TheVariants as term
-use Rattle.query_shape.specs.Shape.{Layout, IsShapeOf, IsShapeMatch}
+use Rattle.query_shape.specs.Shape.{Layout, IsShapeMatch}
 use Rattle.query_shape.proofs.PlaceLemmas.{one_place}
 use Rattle.query_shape.proofs.NumberingLemmas.{occur_distinct}
 use Rattle.query_shape.proofs.MatchLemmas.{same_matches, each_placing}
@@ -23,11 +23,10 @@ use Rattle.join_ops.specs.Joins.{IsFixed}
 use Rattle.answer_core.specs.Keys.{IsNumbered, IsKeyOf, AreKeys}
 use Rattle.answer_core.specs.AnswerLaws.{HasNoSuccessorHead}
 use Rattle.answer_core.specs.Binding.{BoundQuery, IsBoundTo, IsFixedTerm}
-use Rattle.answer_core.specs.Found.{Stands, Reads, IsFoundKey, Spells, AreSpelled}
+use Rattle.answer_core.specs.Found.{Reads, IsFoundKey, Spells, AreSpelled}
 use Rattle.answer_core.proofs.KeyLemmas.{keys_are_certain}
 use Rattle.answer_core.proofs.ListLemmas.{some_same, at_place, place_has, zip_at, zip_back}
 use Rattle.answer_core.proofs.TermLemmas.{occur_each, occur_only}
-use Rattle.answer_core.proofs.ReadLemmas.{named_same}
 
 -- the image of a numbered term is its place
 map_at : (place : Term → Elem) (ts : List Term) (k : ℕ) (t : Term) → slice_get ts k ≡ Some t → slice_get (map place ts) k ≡ Some (place t)
@@ -75,11 +74,11 @@ module _ (o : Terminology) (table : List TableRow) (names : List (List ℕ)) (q 
     unfolding images
     fixed_of_key i n at =
         let found = zip_back (IsFixedTerm names) b.shape.terms fixed i (Some n) fixed_are at in
-        let name = fixed_name names found.0 n found.2.1 in
-        let there : Contains (terms q) (term.Named name.0) = occur_only bound.shape.terms_are (term.Named name.0) (place_has b.shape.terms i (term.Named name.0) (found.2.0 ∙ ap Some name.1)) in
+        let name = fixed_name names found.0 n found.2 in
+        let there : Contains (terms q) (term.Named name.0) = occur_only bound.shape.terms_are (term.Named name.0) (place_has b.shape.terms i (term.Named name.0) (found.1 ∙ ap Some name.1)) in
         let number = numbered names (k.place (term.Named name.0)) name.0 (k.names_are name.0 there) in
         let one : number.number ≡ n = one_place names number.number n name.0 distinct number.at name.2 in
-        map_at k.place b.shape.terms i found.0 found.2.0 ∙ ap Some (ap k.place name.1 ∙ (number.is ∙ ap elem.Named one))
+        map_at k.place b.shape.terms i found.0 found.1 ∙ ap Some (ap k.place name.1 ∙ (number.is ∙ ap elem.Named one))
 
     numbers_of_key : (vs : List (List ℕ)) (places : List ℕ) (rest_of : List (List ℕ)) → AllZip (λ v n. slice_get b.shape.terms n ≡ Some (term.Var v)) vs places
         → AllZip (λ v a. IsNumbered names (k.place (term.Var v)) a) vs rest_of → (numbers : List ℕ) × Reads images places (length names) numbers × Spells names numbers rest_of
@@ -127,9 +126,9 @@ module _ (o : Terminology) (table : List TableRow) (names : List (List ℕ)) (q 
         let among : Contains b.shape.terms (term.Named a) = occur_each bound.shape.terms_are (term.Named a) there in
         let at = at_place b.shape.terms (term.Named a) among in
         let entry = zip_at (IsFixedTerm names) b.shape.terms fixed at.0 (term.Named a) fixed_are at.2 in
-        let number = name_fixed names a entry.0 (known a among) entry.2.1 in
+        let number = name_fixed names a entry.0 (known a among) entry.2 in
         is_numbered (placing.0 (term.Named a)) number.0 a
-        (stands_at at.0 (term.Named a) (elem.Named number.0) at.2 (found.fixed_are at.0 number.0 (entry.2.0 ∙ ap Some number.1))) number.2
+        (stands_at at.0 (term.Named a) (elem.Named number.0) at.2 (found.fixed_are at.0 number.0 (entry.1 ∙ ap Some number.1))) number.2
 
     pub key_of_found : IsKeyOf o table names q key
     key_of_found = record {
@@ -150,6 +149,11 @@ module _ (o : Terminology) (table : List TableRow) (names : List (List ℕ)) (q 
       λ k. (let f = found_of_key key k in (spelled.members key).1 (f.0, (each f.0).1 f.1, f.2)),
     );
   }
+
+  pub keys_result : {E : Type 0} (found : List (List ℕ)) (r : Result (List (List (List ℕ))) E) → ((numbers : List ℕ) → Contains found numbers ↔ IsFoundKey table b fixed (length names) numbers)
+      → IfOk r (AreSpelled names found) → IfOk r (AreKeys o table names q)
+  keys_result found (Ok keys) each spelled = are_keys found keys each spelled
+  keys_result found (Err e) each spelled = tt
 
 -- a name that isn't in the list has no match
 pub no_keys : (o : Terminology) (table : List TableRow) (names : List (List ℕ)) (q : Question) (b : BoundQuery) → IsBoundTo o q b
@@ -172,3 +176,31 @@ are_answers o rows names generation table q keys query heads completed are = rec
     λ certain. (are.members key).1 ((keys_are_certain o rows names generation table q key query heads completed).0 certain),
   );
 }
+
+pub answers_result : {E : Type 0} (o : Terminology) (rows : List NamedRow) (names : List (List ℕ)) (generation : Role → ℕ) (table : List TableRow) (q : Question) (r : Result (List (List (List ℕ))) E)
+    → IsQuery q → HasNoSuccessorHead o → AreCompleted o rows names generation table → IfOk r (AreKeys o table names q) → IfOk r (AreAnswers o rows q)
+answers_result o rows names generation table q (Ok keys) query heads completed are = are_answers o rows names generation table q keys query heads completed are
+answers_result o rows names generation table q (Err e) query heads completed are = tt
+
+-- what is found are numbers of names
+reads_within : (es : List Elem) (count : ℕ) (places numbers : List ℕ) → Reads es places count numbers → All (λ n. n < count) numbers
+reads_within es count [] [] r = All-nil (λ n. n < count)
+reads_within es count [] (n ∷ ns) r = absurd r
+reads_within es count (p ∷ ps) [] r = absurd r
+reads_within es count (p ∷ ps) (n ∷ ns) r = All-cons (λ n. n < count) n ns r.0.1 (reads_within es count ps ns r.1)
+
+pub found_within : (table : List TableRow) (b : BoundQuery) (fixed : List (Option ℕ)) (count : ℕ) (found : List (List ℕ))
+    → ((numbers : List ℕ) → Contains found numbers ↔ IsFoundKey table b fixed count numbers) → All (All (λ n. n < count)) found
+found_within table b fixed count found each k d below =
+    let key = (each (get_or found k d)).0 (Contains-get_or found k d below) in
+    reads_within key.images count b.answers (get_or found k d) key.reads
+
+-- the same of what is equal
+pub found_as : (table : List TableRow) (shape : Layout) (places others : List ℕ) (fixed of_terms : List (Option ℕ)) (count most : ℕ) (found : List (List ℕ))
+    → places ≡ others → fixed ≡ of_terms → count ≡ most
+    → ((numbers : List ℕ) → Contains found numbers ↔ IsFoundKey table (record { shape = shape; answers = places }) fixed count numbers)
+    → (numbers : List ℕ) → Contains found numbers ↔ IsFoundKey table (record { shape = shape; answers = others }) of_terms most numbers
+found_as table shape places others fixed of_terms count most found p f c each numbers =
+    subst (λ (x : List ℕ). Contains found numbers ↔ IsFoundKey table (record { shape = shape; answers = x }) of_terms most numbers) p
+    (subst (λ (x : List (Option ℕ)). Contains found numbers ↔ IsFoundKey table (record { shape = shape; answers = places }) x most numbers) f
+    (subst (λ (x : ℕ). Contains found numbers ↔ IsFoundKey table (record { shape = shape; answers = places }) fixed x numbers) c (each numbers)))

@@ -1,5 +1,5 @@
 -- The certain keys are the keys of matches in the completed table.
-use Rattle.std.proofs.Common.{◌≡◌, ℕ, suc, ◌⊎◌, inl, inr, false, List, [], ◌∷◌, ◌++◌, map, Contains, All, Option, slice_get, Some, refl, sym, ◌∙◌, subst, ap, arith}
+use Rattle.std.proofs.Common.{◌≡◌, ℕ, suc, ◌⊎◌, inl, inr, false, List, [], ◌∷◌, map, Contains, All, slice_get, Some, refl, sym, subst, ap, arith}
 use Rattle.std.specs.List.{flat_map, AllZip}
 use Rattle.std.specs.declared.cmp.Ordering.{Ordering}
 use Rattle.std.specs.declared.cmp.Ordering.TheVariants.{Less, Equal, Greater}
@@ -11,11 +11,11 @@ use Rattle.std.proofs.lemmas.List.Elements.{All-cons, All-nil, All-head, All-tai
 use Rattle.dl_base.specs.Ontology.{Terminology}
 use Rattle.dl_base.specs.Query.{Question, IsQuery, terms, terms_of}
 use Rattle.dl_base.specs.Rows.{HasRow, IsIndividual, name_cmp}
-use Rattle.dl_base.specs.Unfolding.{Element, Named, Next, Exists, DerivedAt}
+use Rattle.dl_base.specs.Unfolding.{Element, Named, Exists, DerivedAt}
 use Rattle.dl_base.specs.Answers.{Holds, IsCertain}
 use Rattle.dl_base.specs.Tables.{TableRow, ConceptRow, RoleRow}
-use Rattle.dl_base.specs.Completion.{AreCompleted, CompletesConcept, CompletesRole, Node, Individual, WitnessOf, IsNode, DerivedAtNode, Represents, RoleLeads}
-use Rattle.dl_base.specs.Matches.{IsRowAt, IsMatch}
+use Rattle.dl_base.specs.Completion.{AreCompleted, Node, Individual, WitnessOf, IsNode, DerivedAtNode, Represents, RoleLeads}
+use Rattle.dl_base.specs.Matches.{IsRowAt}
 use Rattle.dl_base.specs.declared.concept.Role.{Role}
 use Rattle.dl_base.specs.declared.concept.Basic.TheVariants as basic
 use Rattle.dl_base.specs.declared.element.Elem.{Elem}

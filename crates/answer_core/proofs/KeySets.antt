@@ -1,5 +1,5 @@
 -- Sets of keys, seen by what a key is read as.
-use Rattle.std.proofs.Common.{◌≡◌, ℕ, ◌⊎◌, inl, inr, Bool, true, List, [], ◌∷◌, map, Contains, refl, sym, ◌∙◌, ap, subst}
+use Rattle.std.proofs.Common.{◌≡◌, inl, inr, true, List, [], ◌∷◌, map, Contains, refl, sym, ◌∙◌, ap, subst}
 use Rattle.std.specs.Cmp.{IsTotalOrder}
 use Rattle.std.specs.List.{AllByRecursion, list_any}
 use Rattle.std.specs.List.Sorted.{IsStrictlySortedBy}
@@ -25,8 +25,7 @@ module _ {K X : Type 0} (f : K → X) (R : X → X → Ordering) (total : IsTota
 
   placed_key : (x : X) (xs : List X) → AddsKey xs x (placed R total same x xs)
   placed_key x xs z =
-      let adds = placed_adds R total same x xs in
-      (
+      let adds = placed_adds R total same x xs in (
         λ c. elim (adds.each z c) [ inl e ↦ inr e | inr d ↦ inl d ],
         λ either. elim either [ inl d ↦ adds.stays z d | inr e ↦ subst (Contains (placed R total same x xs)) (sym e) adds.there ],
       )

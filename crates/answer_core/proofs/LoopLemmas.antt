@@ -6,7 +6,7 @@ use Rattle.dl_base.specs.Tables.{TableRow}
 use Rattle.dl_base.specs.declared.element.Elem.{Elem}
 use Rattle.dl_base.proofs.RisingLemmas.{contains_first}
 use Rattle.query_shape.specs.Shape.{IsShapeMatch, IsLayout}
-use Rattle.join_ops.specs.Joins.{Search, Behind, AreLeft, AreMatches, IsNext, IsBehind}
+use Rattle.join_ops.specs.Joins.{Search, AreLeft, AreMatches, IsNext}
 use Rattle.answer_core.specs.Binding.{BoundQuery}
 use Rattle.answer_core.specs.Found.{Reads, IsFoundKey}
 use Rattle.answer_core.proofs.RankLemmas.{rank, tuples, elements, rank_falls, match_in}
@@ -79,10 +79,10 @@ module _ (table : List TableRow) (b : BoundQuery) (fixed : List (Option ℕ)) (c
       → (numbers : List ℕ) → Contains found numbers ↔ IsFoundKey table b fixed count numbers
   found_all search found so_far none numbers = (
     λ c. (
-      let f = (so_far.members numbers).0 c in
-      let is = (so_far.are.each f.0).0 (subst (λ (ms : List (List Elem)). Contains ms f.0) done f.1) in
-      record { images = f.0; match_is = is.0; fixed_are = is.1; reads = f.2 }
-    ),
+        let f = (so_far.members numbers).0 c in
+        let is = (so_far.are.each f.0).0 (subst (λ (ms : List (List Elem)). Contains ms f.0) done f.1) in
+        record { images = f.0; match_is = is.0; fixed_are = is.1; reads = f.2 }
+        ),
     λ k. (so_far.members numbers).1 (k.images, subst (λ (ms : List (List Elem)). Contains ms k.images) (sym done) ((so_far.are.each k.images).1 (k.match_is, k.fixed_are)), k.reads),
   )
     where

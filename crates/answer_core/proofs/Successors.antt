@@ -1,5 +1,5 @@
 -- Where no inclusion says that something has a successor, nothing is pointed to.
-use Rattle.std.proofs.Common.{◌≡◌, ℕ, List, refl}
+use Rattle.std.proofs.Common.{ℕ, List}
 use Rattle.dl_base.specs.Ontology.{Terminology}
 use Rattle.dl_base.specs.Derivation.{Derives, leaf, node}
 use Rattle.dl_base.specs.Rows.{Held}

@@ -1,5 +1,4 @@
-use Rattle.std.proofs.Common.{◌<◌, ◌≢◌, ◌≡◌, length, get_or, arith, sym, subst, ℕ, below_more, get_or-set_other, get_or-set_same, set}
-use Rattle.answer_core.specs.Found.{Stands}
+use Rattle.std.proofs.Common.{◌<◌, ◌≢◌, length, get_or, arith, below_more, get_or-set_other, get_or-set_same}
 use Rattle.answer_core.proofs.ReadLemmas.{stands_here, reads_all, reads_not}
 use Rattle.answer_core.proofs.answer_list.read_key.Goals as goal
 

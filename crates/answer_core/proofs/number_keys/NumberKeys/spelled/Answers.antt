@@ -1,4 +1,4 @@
-use Rattle.std.proofs.Common.{◌<◌, [], map, length, List, ℕ, All, subst, sym, ap}
+use Rattle.std.proofs.Common.{◌<◌, map, length, List, ℕ, All, subst, sym}
 use Rattle.answer_core.specs.Found.{Spells}
 use Rattle.answer_core.proofs.SpellLemmas.{AreSpelledOf, next_numbers, spelled_more, spelled_result}
 use Rattle.answer_core.proofs.number_keys.NumberKeys.spelled.Goals as goal
