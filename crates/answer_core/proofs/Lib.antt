@@ -9,3 +9,4 @@ pub mod ReadLemmas
 pub mod FoundLemmas
 pub mod RankLemmas
 pub mod LoopLemmas
+pub mod DomainExample
