@@ -127,10 +127,13 @@ is_query = record {
     x = term.Var (codes "x")
 
 pub a_is_in_a : AIsInA
-a_is_in_a = (answered, λ names generation table completed. record {
-  rising = answered.rising;
-  members = λ key. (
-    λ c. (keys_are_certain domain a_has_b names generation table who_is_in_a key is_query no_head completed).0 ((answered.members key).0 c),
-    λ k. (answered.members key).1 ((keys_are_certain domain a_has_b names generation table who_is_in_a key is_query no_head completed).1 k),
-  );
-})
+a_is_in_a = (
+  answered,
+  λ names generation table completed. record {
+    rising = answered.rising;
+    members = λ key. (
+      λ c. (keys_are_certain domain a_has_b names generation table who_is_in_a key is_query no_head completed).0 ((answered.members key).0 c),
+      λ k. (answered.members key).1 ((keys_are_certain domain a_has_b names generation table who_is_in_a key is_query no_head completed).1 k),
+    );
+  },
+)

@@ -10,3 +10,6 @@ mod number_keys;
 
 pub use answer_list::answers;
 pub use bound::{Bound, bind};
+
+#[cfg(test)]
+mod tests;
