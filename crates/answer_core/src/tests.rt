@@ -93,14 +93,27 @@ fn text_of(alloc: Global, keys: &Keys) -> Result<Vec<u8>, AllocError> {
     Ok(text)
 }
 
+/// The keys of a query in the tables.
+fn reply(
+    alloc: Global,
+    t: &PlainTables,
+    o: &Ontology,
+    book: &NameBook,
+    text: &[u8],
+) -> Result<Vec<u8>, Fail> {
+    let q = read_query(alloc, text)?;
+    let b = bind(alloc, &q, o, t)?;
+    let keys = answers(alloc, t, book, &b)?;
+    Ok(text_of(alloc, &keys)?)
+}
+
 #[test]
 fn each_key_once_in_order(rt: HostRuntime) -> Result<(), Fail> {
     let t = tables(rt.alloc())?;
     let o = ontology(rt.alloc())?;
     let book = individuals(rt.alloc())?;
     for (text, wanted) in ANSWERS {
-        let b = bind(rt.alloc(), &read_query(rt.alloc(), text)?, &o, &t)?;
-        let keys = text_of(rt.alloc(), &answers(rt.alloc(), &t, &book, &b)?)?;
+        let keys = reply(rt.alloc(), &t, &o, &book, text)?;
         assert_eq!(rt; keys.as_slice(), wanted, "at {text:?}");
     }
     Ok(())
