@@ -1,11 +1,11 @@
 -- The small base of the laws.
-use Rattle.std.proofs.Common.{◌≡◌, ℕ, ◌⊎◌, inl, inr, Bool, true, false, List, [], ◌∷◌, map, length, All, Contains, slice_get, Some, refl, sym, ap, subst, codes, arith}
+use Rattle.std.proofs.Common.{◌≡◌, ℕ, inl, inr, Bool, true, false, List, [], ◌∷◌, map, All, Contains, refl, sym, ap, subst, codes, arith}
 use Rattle.std.specs.List.{AllByRecursion}
 use Rattle.std.specs.List.Sorted.{IsStrictlySortedBy}
 use Rattle.std.proofs.lemmas.List.Elements.{All-cons, All-nil}
 use Rattle.dl_base.specs.Query.{IsQuery, terms}
-use Rattle.dl_base.specs.Derivation.{Derives, leaf, node, none, each}
-use Rattle.dl_base.specs.Rows.{IsIndividual, Names, Held, HasRow, row_of}
+use Rattle.dl_base.specs.Derivation.{leaf, node, none, each}
+use Rattle.dl_base.specs.Rows.{IsIndividual, Names, Held, row_of}
 use Rattle.dl_base.specs.Unfolding.{Element, Named, DerivedAt}
 use Rattle.dl_base.specs.Answers.{Holds, IsCertain, AreAnswers, key_cmp}
 use Rattle.dl_base.specs.declared.concept.Basic.{Basic}
@@ -21,7 +21,6 @@ use Rattle.dl_base.specs.declared.query.Atom.TheVariants as atom
 use Rattle.dl_base.proofs.DerivationLemmas.{least, IsClosed}
 use Rattle.dl_base.proofs.Examples.{only_item, first_item}
 use Rattle.answer_core.specs.AnswerLaws.{AIsInA, HasNoSuccessorHead, domain, a_has_b, who_is_in_a}
-use Rattle.answer_core.specs.Keys.{AreKeys}
 use Rattle.answer_core.proofs.KeyLemmas.{keys_are_certain}
 
 inclusion : Inclusion
