@@ -1,1 +1,4 @@
 pub mod Shape
+pub mod ShapeFault
+pub mod Numbering
+pub mod ShapeLaws

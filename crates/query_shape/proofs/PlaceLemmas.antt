@@ -1,0 +1,115 @@
+-- Places of lists of distinct items.
+use Rattle.std.proofs.Common.{◌≡◌, ◌≢◌, ℕ, zero, suc, ◌<◌, ◌≤◌, ◌⊎◌, inl, inr, List, [], ◌∷◌, ◌++◌, length, get_or, Some, None, slice_get, AllPairs, Contains, refl, sym, ◌∙◌, ap, arith}
+use Rattle.std.specs.List.{AllZip}
+use Rattle.std.proofs.lemmas.Option.{slice_get_within, get_or_from_slice_get, slice_get-get_or}
+use Rattle.dl_base.proofs.RisingLemmas.{contains_cases, contains_later, contains_first}
+
+-- what stands at a place is a member
+pub member_at : {X : Type 0} (xs : List X) (k : ℕ) (x : X) → slice_get xs k ≡ Some x → Contains xs x
+member_at xs k x e = (k, slice_get_within xs k x e, get_or_from_slice_get xs k x x e)
+
+-- and a member stands at its place
+pub place_of : {X : Type 0} (xs : List X) (x : X) → (c : Contains xs x) → slice_get xs c.0 ≡ Some x
+place_of xs x c = slice_get-get_or xs c.0 x c.1 ∙ ap Some c.2
+
+-- where nothing stands, the list has ended
+pub none_past : {X : Type 0} (xs : List X) (k : ℕ) → slice_get xs k ≡ None → length xs ≤ k
+none_past [] k e = omega arith
+none_past (y ∷ xs) zero e = absurd cc
+none_past (y ∷ xs) (suc k) e = let rest : length xs ≤ k = none_past xs k e in omega arith
+
+-- places in front of more items
+pub place_stays : {X : Type 0} (xs ys : List X) (k : ℕ) (x : X) → slice_get xs k ≡ Some x → slice_get (xs ++ ys) k ≡ Some x
+place_stays [] ys k x e = absurd cc
+place_stays (y ∷ xs) ys zero x e = e
+place_stays (y ∷ xs) ys (suc k) x e = place_stays xs ys k x e
+
+pub last_place : {X : Type 0} (xs : List X) (x : X) → slice_get (xs ++ x ∷ []) (length xs) ≡ Some x
+last_place [] x = refl
+last_place (y ∷ xs) x = last_place xs x
+
+-- an item of a distinct list stands at one place
+pub one_place : {X : Type 0} (xs : List X) (i j : ℕ) (x : X) → AllPairs (λ y z. y ≢ z) xs → slice_get xs i ≡ Some x → slice_get xs j ≡ Some x → i ≡ j
+one_place xs i j x distinct e f =
+    let at_i : get_or xs i x ≡ x = get_or_from_slice_get xs i x x e in
+    let at_j : get_or xs j x ≡ x = get_or_from_slice_get xs j x x f in
+    let not_below : i < j → ⊥ = λ lt. distinct i j x lt (slice_get_within xs j x f) (at_i ∙ sym at_j) in
+    let not_above : j < i → ⊥ = λ lt. distinct j i x lt (slice_get_within xs i x e) (at_j ∙ sym at_i) in
+    omega arith
+
+-- the list without one place of x
+record Without {X : Type 0} (ys : List X) (x : X) : Type 0 where
+  rest : List X
+  length_is : length ys ≡ suc (length rest)
+  stays : (z : X) → z ≢ x → Contains ys z → Contains rest z
+
+without : {X : Type 0} (ys : List X) (x : X) → Contains ys x → Without ys x
+without [] x c = absurd (omega (arith, c.1))
+without {X} (y ∷ ys) x c = by (contains_cases y ys x c) (λ d. without ys x d)
+  where
+    first : x ≡ y → (z : X) → z ≢ x → (z ≡ y) ⊎ Contains ys z → Contains ys z
+    first e z other (inl f) = absurd (other (f ∙ sym e))
+    first e z other (inr d) = d
+
+    later : (w : Without ys x) (z : X) → z ≢ x → (z ≡ y) ⊎ Contains ys z → Contains (y ∷ w.rest) z
+    later w z other (inl f) = (0, omega arith, sym f)
+    later w z other (inr d) = contains_later y w.rest z (w.stays z other d)
+
+    by : (x ≡ y) ⊎ Contains ys x → (Contains ys x → Without ys x) → Without (y ∷ ys) x
+    by (inl e) rec = record { rest = ys; length_is = refl; stays = λ z other d. first e z other (contains_cases y ys z d) }
+    by (inr d) rec =
+        let w : Without ys x = rec d in
+        record { rest = y ∷ w.rest; length_is = ap suc w.length_is; stays = λ z other c. later w z other (contains_cases y ys z c) }
+
+pub distinct_head : {X : Type 0} (x : X) (xs : List X) → AllPairs (λ y z. y ≢ z) (x ∷ xs) → (z : X) → Contains xs z → z ≢ x
+distinct_head x xs distinct z c e = distinct 0 (suc c.0) z (omega arith) (omega (arith, c.1)) (sym e ∙ sym c.2)
+
+pub distinct_tail : {X : Type 0} (x : X) (xs : List X) → AllPairs (λ y z. y ≢ z) (x ∷ xs) → AllPairs (λ y z. y ≢ z) xs
+distinct_tail x xs distinct i j d lt below = distinct (suc i) (suc j) d (omega arith) (omega arith)
+
+-- distinct members of a list are no more than it has places
+pub no_more : {X : Type 0} (xs ys : List X) → AllPairs (λ y z. y ≢ z) xs → ((z : X) → Contains xs z → Contains ys z) → length xs ≤ length ys
+no_more [] ys distinct into = omega arith
+no_more (x ∷ xs) ys distinct into =
+    let w : Without ys x = without ys x (into x (contains_first x xs)) in
+    let rest : length xs ≤ length w.rest =
+    no_more xs w.rest (distinct_tail x xs distinct) (λ z c. w.stays z (distinct_head x xs distinct z c) (into z (contains_later x xs z c))) in
+    omega (arith, w.length_is)
+
+-- one more pair at the end of both lists
+pub zip_push : {A B : Type 0} (R : A → B → Type 0) (xs : List A) (ys : List B) (x : A) (y : B) → AllZip R xs ys → R x y → AllZip R (xs ++ x ∷ []) (ys ++ y ∷ [])
+zip_push R [] [] x y all r = (r, tt)
+zip_push R [] (b ∷ ys) x y all r = absurd all
+zip_push R (a ∷ xs) [] x y all r = absurd all
+zip_push R (a ∷ xs) (b ∷ ys) x y all r = (all.0, zip_push R xs ys x y all.1 r)
+
+pub zip_weaker : {A B : Type 0} (R S : A → B → Type 0) → ((a : A) (b : B) → R a b → S a b) → (xs : List A) (ys : List B) → AllZip R xs ys → AllZip S xs ys
+zip_weaker R S weaker [] [] all = tt
+zip_weaker R S weaker [] (b ∷ ys) all = absurd all
+zip_weaker R S weaker (a ∷ xs) [] all = absurd all
+zip_weaker R S weaker (a ∷ xs) (b ∷ ys) all = (weaker a b all.0, zip_weaker R S weaker xs ys all.1)
+
+pub zip_length : {A B : Type 0} (R : A → B → Type 0) (xs : List A) (ys : List B) → AllZip R xs ys → length ys ≡ length xs
+zip_length R [] [] all = refl
+zip_length R [] (b ∷ ys) all = absurd all
+zip_length R (a ∷ xs) [] all = absurd all
+zip_length R (a ∷ xs) (b ∷ ys) all = ap suc (zip_length R xs ys all.1)
+
+-- the partner of a member of either list
+pub zip_left : {A B : Type 0} (R : A → B → Type 0) (xs : List A) (ys : List B) → AllZip R xs ys → (a : A) → Contains xs a → (b : B) × Contains ys b × R a b
+zip_left R [] ys all a c = absurd (omega (arith, c.1))
+zip_left R (x ∷ xs) [] all a c = absurd all
+zip_left {A} {B} R (x ∷ xs) (y ∷ ys) all a c = by (contains_cases x xs a c) (zip_left R xs ys all.1 a)
+  where
+    by : (a ≡ x) ⊎ Contains xs a → (Contains xs a → (b : B) × Contains ys b × R a b) → (b : B) × Contains (y ∷ ys) b × R a b
+    by (inl e) rec = (y, contains_first y ys, rw e all.0)
+    by (inr d) rec = let found : (b : B) × Contains ys b × R a b = rec d in (found.0, contains_later y ys found.0 found.1, found.2)
+
+pub zip_right : {A B : Type 0} (R : A → B → Type 0) (xs : List A) (ys : List B) → AllZip R xs ys → (b : B) → Contains ys b → (a : A) × Contains xs a × R a b
+zip_right R xs [] all b c = absurd (omega (arith, c.1))
+zip_right R [] (y ∷ ys) all b c = absurd all
+zip_right {A} {B} R (x ∷ xs) (y ∷ ys) all b c = by (contains_cases y ys b c) (zip_right R xs ys all.1 b)
+  where
+    by : (b ≡ y) ⊎ Contains ys b → (Contains ys b → (a : A) × Contains xs a × R a b) → (a : A) × Contains (x ∷ xs) a × R a b
+    by (inl e) rec = (x, contains_first x xs, rw e all.0)
+    by (inr d) rec = let found : (a : A) × Contains xs a × R a b = rec d in (found.0, contains_later x xs found.0 found.1, found.2)
