@@ -7,10 +7,12 @@ use dl_base::{Axiom, Elem, Items, Name, Names, Ontology, Row};
 use plain_tables::PlainTables;
 use query_shape::{Shape, shape};
 use std::alloc::{AllocError, Global};
+use std::process::Abort;
 use std::test::Fail;
 
 /// A(1), A(2), A(4), B(3), r(1,1), r(1,2), r(2,3), r(3,1), r(4,4), s(2,5), s(2,6).
 const CONCEPTS: [(u32, u32); 4] = [(0, 1), (0, 2), (0, 4), (1, 3)];
+
 const ROLES: [(u32, u32, u32); 7] = [
     (0, 1, 1),
     (0, 1, 2),
@@ -113,15 +115,32 @@ fn found(
     Ok(numbers)
 }
 
+fn shape_of(alloc: Global, o: &Ontology, text: &[u8]) -> Result<Shape, Fail> {
+    let query = read_query(alloc, text)?;
+    Ok(shape(alloc, &query, o)?)
+}
+
+fn assert_found(
+    rt: &impl Abort,
+    alloc: Global,
+    t: &PlainTables,
+    s: &Shape,
+    fixed: &[Option<u32>],
+    wanted: &[u32],
+) -> Result<(), AllocError> {
+    assert!(rt; fixed.len() == s.terms());
+    let numbers = found(alloc, t, s, fixed)?;
+    assert_eq!(rt; numbers.as_slice(), wanted);
+    Ok(())
+}
+
 #[test]
 fn gives_each_match_once(rt: HostRuntime) -> Result<(), Fail> {
     let t = tables(rt.alloc())?;
     let o = ontology(rt.alloc())?;
     for (text, fixed, wanted) in MATCHES {
-        let s = shape(rt.alloc(), &read_query(rt.alloc(), text)?, &o)?;
-        assert!(rt; fixed.len() == s.terms());
-        let numbers = found(rt.alloc(), &t, &s, fixed)?;
-        assert_eq!(rt; numbers.as_slice(), wanted, "at {text:?}");
+        let s = shape_of(rt.alloc(), &o, text)?;
+        assert_found(&rt, rt.alloc(), &t, &s, fixed, wanted)?;
     }
     Ok(())
 }
