@@ -1,0 +1,109 @@
+-- What a search has left once it went on.
+use Rattle.std.proofs.Common.{◌≡◌, ℕ, Bool, true, false, ◌⊎◌, inl, inr, List, [], ◌∷◌, Option, Contains, refl, sym, ap, ◌∙◌, subst, arith}
+use Rattle.std.specs.Cmp.{IsTotalOrder}
+use Rattle.std.specs.Cmp.Lexicographic.{slice_cmp}
+use Rattle.std.specs.List.Sorted.{IsStrictlySortedBy}
+use Rattle.std.specs.declared.cmp.Ordering.TheVariants.{Less, Equal}
+use Rattle.std.proofs.lemmas.Cmp.{lists_total, tied_itself}
+use Rattle.dl_base.specs.Tables.{TableRow, elem_cmp}
+use Rattle.dl_base.specs.declared.element.Elem.{Elem}
+use Rattle.dl_base.proofs.ElemLemmas.{elem_total}
+use Rattle.dl_base.proofs.RisingLemmas.{contains_cases, contains_first, contains_later, all_contains}
+use Rattle.dl_base.proofs.RowLemmas.{none_rising}
+use Rattle.query_shape.specs.declared.layout.ShapeAtom.{ShapeAtom}
+use Rattle.join_ops.specs.Joins.{Place, Start, Behind, End, IsFound, IsBehind, AreLeft, IsNext, Advances}
+use Rattle.join_ops.specs.Levels.{Finds, IsLast, IsLeast, place_of}
+use Rattle.join_ops.specs.declared.search.At.{At}
+use Rattle.join_ops.specs.declared.search.At.TheVariants as at
+
+pub images_total : IsTotalOrder (slice_cmp elem_cmp)
+images_total = lists_total elem_total
+
+pub never_below : (x : List Elem) → slice_cmp elem_cmp x x ≡ Less → ⊥
+never_below x less = let self : slice_cmp elem_cmp x x ≡ Equal = tied_itself images_total x in let e : Less ≡ Equal = sym less ∙ self in cc
+
+less_through : (x y z : List Elem) → slice_cmp elem_cmp x y ≡ Less → slice_cmp elem_cmp y z ≡ Less → slice_cmp elem_cmp x z ≡ Less
+less_through x y z e f = images_total.trans x y z e f
+
+behind_through : (place : Place) (x y : List Elem) → IsBehind place x → slice_cmp elem_cmp x y ≡ Less → IsBehind place y
+behind_through Start x y h less = tt
+behind_through (Behind last) x y h less = less_through last x y h less
+behind_through End x y h less = absurd h
+
+module _ (table : List TableRow) (atoms : List ShapeAtom) (fixed : List (Option ℕ)) (place : Place) where
+  none_left : (left : List (List Elem)) → AreLeft table (record { atoms = atoms; fixed = fixed; place = place }) left
+      → ((others : List Elem) → IsFound table atoms fixed others → IsBehind place others → ⊥)
+      → (left ≡ []) × AreLeft table (record { atoms = atoms; fixed = fixed; place = End }) []
+  none_left [] are none = (
+    refl,
+    record {
+      last = λ images e. absurd (cc);
+      rising = none_rising (slice_cmp elem_cmp);
+      each = λ images. ((λ c. absurd (omega arith)), (λ h. absurd h.1));
+    },
+  )
+  none_left (x ∷ xs) are none = let h = (are.each x).0 (contains_first x xs) in absurd (none x h.0 h.1)
+
+  first_is : (x images : List Elem) (xs : List (List Elem)) → AreLeft table (record { atoms = atoms; fixed = fixed; place = place }) (x ∷ xs)
+      → IsLeast table atoms fixed place images → x ≡ images
+  unfolding IsStrictlySortedBy
+  first_is x images xs are least =
+      let there = (are.each x).0 (contains_first x xs) in
+      by (contains_cases x xs images ((are.each images).1 (least.found, least.behind))) (least.least x there.0 there.1)
+    where
+      by : (images ≡ x) ⊎ Contains xs images → (images ≡ x) ⊎ (slice_cmp elem_cmp images x ≡ Less) → x ≡ images
+      by (inl e) other = sym e
+      by (inr c) (inl e) = sym e
+      by (inr c) (inr less) =
+          let above : slice_cmp elem_cmp x images ≡ Less = all_contains _ xs images are.rising.0 c in
+          absurd (never_below x (less_through x images x above less))
+
+  others_left : (x : List Elem) (xs : List (List Elem)) → AreLeft table (record { atoms = atoms; fixed = fixed; place = place }) (x ∷ xs)
+      → AreLeft table (record { atoms = atoms; fixed = fixed; place = Behind x }) xs
+  unfolding IsStrictlySortedBy
+  others_left x xs are =
+      let there = (are.each x).0 (contains_first x xs) in
+      record {
+        last = λ images e. let same : x ≡ images = cc in subst (IsFound table atoms fixed) same there.0;
+        rising = are.rising.1;
+        each = λ images. (
+          (λ c. (((are.each images).0 (contains_later x xs images c)).0, all_contains _ xs images are.rising.0 c)),
+          (λ h. in_others images h.1 (contains_cases x xs images ((are.each images).1 (h.0, behind_through place x images there.1 h.1)))),
+        );
+      }
+    where
+      in_others : (images : List Elem) → slice_cmp elem_cmp x images ≡ Less → (images ≡ x) ⊎ Contains xs images → Contains xs images
+      in_others images less (inl e) = absurd (never_below x (subst (λ (l : List Elem). slice_cmp elem_cmp x l ≡ Less) e less))
+      in_others images less (inr c) = c
+
+  next_left : (left : List (List Elem)) (images : List Elem) → AreLeft table (record { atoms = atoms; fixed = fixed; place = place }) left
+      → IsLeast table atoms fixed place images → IsNext table left (record { atoms = atoms; fixed = fixed; place = Behind images })
+  next_left [] images are least = absurd (let c = (are.each images).1 (least.found, least.behind) in omega (arith, c.1))
+  next_left (x ∷ xs) images are least =
+      let same = first_is x images xs are least in
+      record {
+        images = images;
+        others = xs;
+        first = ap (λ (l : List Elem). l ∷ xs) same;
+        stands = refl;
+        goes_on = subst (λ (l : List Elem). AreLeft table (record { atoms = atoms; fixed = fixed; place = Behind l }) xs) same (others_left x xs are);
+      }
+
+  found_left : (left : List (List Elem)) (found : Bool) (images : List Elem) (after : At) → AreLeft table (record { atoms = atoms; fixed = fixed; place = place }) left
+      → Finds table atoms fixed place found images → ((found ≡ true) × (after ≡ at.Behind)) ⊎ ((found ≡ false) × (after ≡ at.End))
+      → Advances table left found (record { atoms = atoms; fixed = fixed; place = place_of after images })
+  found_left left true images after are finds (inl is) =
+      subst (λ (a : At). IsNext table left (record { atoms = atoms; fixed = fixed; place = place_of a images })) (sym is.1) (next_left left images are finds)
+  found_left left true images after are finds (inr is) = absurd (let e = is.0 in cc)
+  found_left left false images after are finds (inl is) = absurd (let e = is.0 in cc)
+  found_left left false images after are finds (inr is) =
+      let none = none_left left are finds in
+      (none.0, subst (λ (a : At). AreLeft table (record { atoms = atoms; fixed = fixed; place = place_of a images }) []) (sym is.1) none.1)
+
+-- what an answer of the search says of what is left
+pub advances : (table : List TableRow) (atoms : List ShapeAtom) (fixed : List (Option ℕ)) (before after : At) (old new : List Elem) (left : List (List Elem)) (found : Bool)
+    → AreLeft table (record { atoms = atoms; fixed = fixed; place = place_of before old }) left
+    → (IsLast table atoms fixed (place_of before old) → Finds table atoms fixed (place_of before old) found new)
+    → ((found ≡ true) × (after ≡ at.Behind)) ⊎ ((found ≡ false) × (after ≡ at.End))
+    → Advances table left found (record { atoms = atoms; fixed = fixed; place = place_of after new })
+advances table atoms fixed before after old new left found are finds is = found_left table atoms fixed (place_of before old) left found new after are (finds are.last) is

@@ -1,0 +1,9 @@
+pub mod Rooms
+pub mod Weights
+pub mod Beyond
+pub mod LevelLemmas
+pub mod SearchSteps
+pub mod SourceLemmas
+pub mod LeftLemmas
+pub mod Decisions
+pub mod AllFound

@@ -1,0 +1,116 @@
+-- The steps of a search over the list in which it keeps the images.
+use Rattle.std.proofs.Common.{◌≡◌, ◌≤◌, ◌<◌, ◌+◌, ◌-◌, ℕ, suc, List, [], ◌∷◌, ◌++◌, Option, Some, None, length, map, take, slice_get, get_or, sym, ap, ◌∙◌, subst, arith}
+use Rattle.std.proofs.Math.ListN.{set}
+use Rattle.std.proofs.Math.Seq.{take-length, take-suc}
+use Rattle.std.proofs.lemmas.List.{take_more_set, length-take-le, length-set}
+use Rattle.std.proofs.lemmas.Option.{slice_get-get_or}
+use Rattle.dl_base.specs.Tables.{TableRow, IsLeastAbove}
+use Rattle.dl_base.specs.declared.element.Elem.{Elem}
+use Rattle.query_shape.specs.declared.layout.ShapeAtom.{ShapeAtom}
+use Rattle.join_ops.specs.Joins.{Place, Start, Behind, IsFound, IsBehind}
+use Rattle.join_ops.specs.Levels.{fixed_of, Fits, IsAt, IsLeast, IsSearch}
+use Rattle.join_ops.specs.declared.source.Source.{Source}
+use Rattle.join_ops.proofs.LevelLemmas.{goes_deeper, goes_back, gives_least, gives_none, starts, stands}
+use Rattle.join_ops.proofs.Rooms.{room_falls, known_all, offered_known_all}
+use Rattle.join_ops.proofs.Weights.{weight, deeper_falls, back_falls}
+
+source_at : (sources : List Source) (front : List Elem) (level : ℕ) (d : Source) → length front ≡ level → level < length sources → slice_get sources (length front) ≡ Some (get_or sources level d)
+source_at sources front level d count below = rw count (slice_get-get_or sources level d below)
+
+set_last : (images : List Elem) (level : ℕ) (e : Elem) → level + 1 ≡ length (set images level e) → level < length images → set images level e ≡ take level images ++ e ∷ []
+set_last images level e last below =
+    let whole = take-length (set images level e) in
+    let more = take_more_set images level e below in
+    sym whole ∙ ap (λ (n : ℕ). take n (set images level e)) (sym last) ∙ more
+
+take_back : (images : List Elem) (level : ℕ) (d : Elem) → level < length images → (level ≡ 0 → ⊥) → take level images ≡ take (level - 1) images ++ get_or images (level - 1) d ∷ []
+take_back images level d below some =
+    let same : level ≡ suc (level - 1) = omega arith in
+    let less : level - 1 < length images = omega arith in
+    ap (λ (n : ℕ). take n images) same ∙ take-suc images (level - 1) d less
+
+module _ (table : List TableRow) (atoms : List ShapeAtom) (sources : List Source) (images : List Elem) (level : ℕ) (below : level < length images) (search : IsSearch atoms sources (length images)) where
+  long : length (take level images) ≡ level
+  long = length-take-le level images (omega arith)
+
+  within : level < length sources
+  within = omega (arith, search.each)
+
+  pub deeper_step : (place : Place) (after : Option Elem) (e : Elem) (d : Source) → (level + 1 ≡ length (set images level e) → ⊥)
+      → IsLeastAbove (Fits table atoms (get_or sources level d) (take level images)) after (Some e)
+      → IsAt table atoms (map fixed_of sources) place (take level images) after → IsAt table atoms (map fixed_of sources) place (take (level + 1) (set images level e)) None
+  deeper_step place after e d more least is =
+      let next = goes_deeper table atoms sources search.sources_are place (take level images) after e (get_or sources level d) (source_at sources (take level images) level d long within)
+      (omega (arith, long, search.each, more, length-set images level e)) least is in
+      rw (take_more_set images level e below) next
+
+  pub deeper_smaller : (after : Option Elem) (e : Elem) (d : Source) → (level + 1 ≡ length (set images level e) → ⊥)
+      → IsLeastAbove (Fits table atoms (get_or sources level d) (take level images)) after (Some e)
+      → weight (known_all table sources) (take (level + 1) (set images level e)) None (length (set images level e) - (level + 1)) < weight (known_all table sources) (take level images) after (length images - level)
+  deeper_smaller after e d more least =
+      let known = known_all table sources in
+      let less = room_falls known after e least.1 (offered_known_all table sources level (get_or sources level d) (take level images) e (slice_get-get_or sources level d within) least.0.offered) in
+      let falls = deeper_falls known (take level images) after e (length images - (level + 1)) less in
+      let levels : length images - level ≡ suc (length images - (level + 1)) = omega arith in
+      rw (take_more_set images level e below, length-set images level e, levels) falls
+
+  pub last_step : (place : Place) (after : Option Elem) (e : Elem) (d : Source) → level + 1 ≡ length (set images level e)
+      → IsLeastAbove (Fits table atoms (get_or sources level d) (take level images)) after (Some e)
+      → IsAt table atoms (map fixed_of sources) place (take level images) after → IsLeast table atoms (map fixed_of sources) place (set images level e)
+  last_step place after e d last least is =
+      let found = gives_least table atoms sources search.sources_are place (take level images) after e (get_or sources level d) (source_at sources (take level images) level d long within)
+      (omega (arith, long, search.each, last, length-set images level e)) (λ a c. rw search.each (search.below a c)) least is in
+      rw (set_last images level e last below) found
+
+  pub back_step : (place : Place) (after : Option Elem) (d : Source) (x : Elem) → (level ≡ 0 → ⊥)
+      → IsLeastAbove (Fits table atoms (get_or sources level d) (take level images)) after None
+      → IsAt table atoms (map fixed_of sources) place (take level images) after → IsAt table atoms (map fixed_of sources) place (take (level - 1) images) (Some (get_or images (level - 1) x))
+  back_step place after d x some none is =
+      let front = take_back images level x below some in
+      goes_back table atoms sources search.sources_are place (take (level - 1) images) (get_or images (level - 1) x) after (get_or sources level d)
+      (rw (← front) (source_at sources (take level images) level d long within))
+      (rw (← front) none) (rw (← front) is)
+
+  pub back_smaller : (after : Option Elem) (x : Elem) → (level ≡ 0 → ⊥)
+      → weight (known_all table sources) (take (level - 1) images) (Some (get_or images (level - 1) x)) (length images - (level - 1)) < weight (known_all table sources) (take level images) after (length images - level)
+  back_smaller after x some =
+      let falls = back_falls (known_all table sources) (take (level - 1) images) after (get_or images (level - 1) x) (length images - level) in
+      let levels : length images - (level - 1) ≡ suc (length images - level) = omega arith in
+      rw (take_back images level x below some, levels) falls
+
+  pub none_step : (place : Place) (after : Option Elem) (d : Source) → level ≡ 0
+      → IsLeastAbove (Fits table atoms (get_or sources level d) (take level images)) after None
+      → IsAt table atoms (map fixed_of sources) place (take level images) after
+      → (others : List Elem) → IsFound table atoms (map fixed_of sources) others → IsBehind place others → ⊥
+  none_step place after d first none is =
+      let at : slice_get sources 0 ≡ Some (get_or sources level d) = ap (λ (n : ℕ). slice_get sources n) (sym first) ∙ slice_get-get_or sources level d within in
+      let front : take level images ≡ [] = ap (λ (n : ℕ). take n images) first in
+      gives_none table atoms sources search.sources_are place after (get_or sources level d) at
+      (rw (← front) none) (rw (← front) is)
+
+pub search_along : (atoms : List ShapeAtom) (sources : List Source) (m n : ℕ) → m ≡ n → IsSearch atoms sources m → IsSearch atoms sources n
+search_along atoms sources m n same search = subst (λ (k : ℕ). IsSearch atoms sources k) same search
+
+pub deeper_below : (images : List Elem) (level : ℕ) (e : Elem) → level < length images → (level + 1 ≡ length (set images level e) → ⊥) → level + 1 < length (set images level e)
+deeper_below images level e below more = omega (arith, length-set images level e)
+
+whole_last : (images : List Elem) (d : Elem) → 1 ≤ length images → images ≡ take (length images - 1) images ++ get_or images (length images - 1) d ∷ []
+whole_last images d some =
+    let last : suc (length images - 1) ≡ length images = omega arith in
+    let less : length images - 1 < length images = omega arith in
+    sym (take-length images) ∙ ap (λ (n : ℕ). take n images) (sym last) ∙ take-suc images (length images - 1) d less
+
+-- where a search goes on from the match that it gave last
+pub stand_step : (table : List TableRow) (atoms : List ShapeAtom) (sources : List Source) (images : List Elem) (d : Elem) → IsSearch atoms sources (length images)
+    → IsFound table atoms (map fixed_of sources) images
+    → IsAt table atoms (map fixed_of sources) (Behind images) (take (length images - 1) images) (Some (get_or images (length images - 1) d))
+stand_step table atoms sources images d search found =
+    let whole = whole_last images d search.some in
+    let front = take (length images - 1) images in
+    let a = get_or images (length images - 1) d in
+    let long : length front ≡ length images - 1 = length-take-le (length images - 1) images (omega arith) in
+    let at = stands table atoms sources search.sources_are front a (omega (arith, long, search.each, search.some)) (subst (IsFound table atoms (map fixed_of sources)) whole found) in
+    subst (λ (l : List Elem). IsAt table atoms (map fixed_of sources) (Behind l) front (Some a)) (sym whole) at
+
+pub start_step : (table : List TableRow) (atoms : List ShapeAtom) (sources : List Source) (n : ℕ) → IsSearch atoms sources n → IsAt table atoms (map fixed_of sources) Start [] None
+start_step table atoms sources n search = starts table atoms sources search.sources_are (omega (arith, search.each, search.some))

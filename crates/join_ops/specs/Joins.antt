@@ -1,0 +1,62 @@
+-- Searches for the matches of a shape in tables, and what these have still to give.
+use Rattle.std.specs.Prelude.{◌≡◌, ◌≢◌, ◌↔◌, ℕ, Bool, true, false, List, [], ◌∷◌, Option, Some, length, slice_get, Contains, AllPairs}
+use Rattle.std.specs.Cmp.Lexicographic.{slice_cmp}
+use Rattle.std.specs.List.Sorted.{IsStrictlySortedBy}
+use Rattle.std.specs.declared.cmp.Ordering.TheVariants.{Less}
+use Rattle.dl_base.specs.Tables.{TableRow, elem_cmp}
+use Rattle.dl_base.specs.declared.element.Elem.{Elem}
+use Rattle.dl_base.specs.declared.element.Elem.TheVariants as elem
+use Rattle.query_shape.specs.Shape.{Layout, IsShapeMatch, HoldsAt}
+use Rattle.query_shape.specs.declared.layout.ShapeAtom.{ShapeAtom}
+
+-- each fixed term is on the individual of its number
+abbrev pub IsFixed : List (Option ℕ) → List Elem → Type 0
+IsFixed fixed images = (k n : ℕ) → slice_get fixed k ≡ Some (Some n) → slice_get images k ≡ Some (elem.Named n)
+
+-- every match of the shape in the table that places the fixed terms so, each once, and no other
+pub record AreMatches (table : List TableRow) (s : Layout) (fixed : List (Option ℕ)) (matches : List (List Elem)) : Type 0 where
+  pub distinct : AllPairs (λ x y. x ≢ y) matches
+  pub each : (images : List Elem) → Contains matches images ↔ (IsShapeMatch table s images × IsFixed fixed images)
+
+-- before the first match, behind the match that was given last, or at the end
+pub data Place : Type 0 where
+  Start : Place
+  Behind : List Elem → Place
+  End : Place
+
+-- the atoms that are searched for, the individual of each fixed one of their terms, and how far the search has come
+pub record Search : Type 0 where
+  pub atoms : List ShapeAtom
+  pub fixed : List (Option ℕ)
+  pub place : Place
+
+-- an image for each term, such that the fixed terms are on their individuals and each atom is a row of the table
+pub record IsFound (table : List TableRow) (atoms : List ShapeAtom) (fixed : List (Option ℕ)) (images : List Elem) : Type 0 where
+  pub count : length images ≡ length fixed
+  pub atoms_hold : (a : ShapeAtom) → Contains atoms a → HoldsAt table images a
+  pub fixed_are : IsFixed fixed images
+
+-- the images are above those that were given last
+abbrev pub IsBehind : Place → List Elem → Type 0
+IsBehind Start images = Unit {0}
+IsBehind (Behind last) images = slice_cmp elem_cmp last images ≡ Less
+IsBehind End images = ⊥
+
+-- The search has these matches in the table still to give, in this order.
+pub record AreLeft (table : List TableRow) (search : Search) (left : List (List Elem)) : Type 0 where
+  pub last : (images : List Elem) → search.place ≡ Behind images → IsFound table search.atoms search.fixed images
+  pub rising : IsStrictlySortedBy (slice_cmp elem_cmp) left
+  pub each : (images : List Elem) → Contains left images ↔ (IsFound table search.atoms search.fixed images × IsBehind search.place images)
+
+-- the search stands behind the first of these, and has the others left
+pub record IsNext (table : List TableRow) (left : List (List Elem)) (search : Search) : Type 0 where
+  pub images : List Elem
+  pub others : List (List Elem)
+  pub first : left ≡ images ∷ others
+  pub stands : search.place ≡ Behind images
+  pub goes_on : AreLeft table search others
+
+-- the search went on to the first of these, or says that there is none
+abbrev pub Advances : List TableRow → List (List Elem) → Bool → Search → Type 0
+Advances table left true search = IsNext table left search
+Advances table left false search = (left ≡ []) × AreLeft table search []

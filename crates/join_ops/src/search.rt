@@ -1,0 +1,77 @@
+//! The search for the next match, by levels.
+ghost use Rattle.std.specs.Prelude.{◌<◌, length, take, map};
+ghost use Rattle.join_ops.specs.Joins.{Place};
+ghost use Rattle.join_ops.specs.Levels.{Finds, IsAt, IsLast, IsSearch, fixed_of, place_of};
+
+use crate::level::candidate;
+use crate::source::Source;
+use dl_base::{Elem, Tables};
+use query_shape::ShapeAtom;
+
+/// Where a search stands: before the first match, behind the images, which are the match given last, or at the end.
+#[derive(Clone, Copy, Debug)]
+pub(crate) enum At {
+    Start,
+    Behind,
+    End,
+}
+
+/// Whether there is a match behind the place. Then the images are the least such match.
+pub(crate) fn resume<T: Tables>(
+    t: &T,
+    atoms: &[ShapeAtom],
+    sources: &[Source],
+    images: &mut [Elem],
+    at: At,
+) -> bool
+    requires { IsSearch atoms.now sources.now (length images.old) }
+    ensures { IsLast (T.rows t.now) atoms.now (map fixed_of sources.now) (place_of at images.old)
+        → Finds (T.rows t.now) atoms.now (map fixed_of sources.now) (place_of at images.old) result images.new }
+{
+    match at {
+        At::Start => search(t, atoms, sources, images, 0, None),
+        At::Behind => {
+            let last = images.len() - 1;
+            let after = images[last];
+            search(t, atoms, sources, images, last, Some(after))
+        }
+        At::End => false,
+    }
+}
+
+/// Looks for the next match from a level on, where the term of that number is to get an element above `after`, or any.
+fn search<T: Tables>(
+    t: &T,
+    atoms: &[ShapeAtom],
+    sources: &[Source],
+    images: &mut [Elem],
+    level: usize,
+    after: Option<Elem>,
+) -> bool
+    requires search { IsSearch atoms.now sources.now (length images.old) }
+    requires level { level < length images.old }
+    ensures { (place : Place) → IsAt (T.rows t.now) atoms.now (map fixed_of sources.now) place (take level images.old) after
+        → Finds (T.rows t.now) atoms.now (map fixed_of sources.now) place result images.new }
+{
+    let mut level = level;
+    let mut after = after;
+    'levels: loop {
+        match candidate(t, atoms, sources[level], &images[..level], after) {
+            Some(e) => {
+                images[level] = e;
+                if level + 1 == images.len() {
+                    return true;
+                }
+                level += 1;
+                after = None;
+            }
+            None => {
+                if level == 0 {
+                    return false;
+                }
+                level -= 1;
+                after = Some(images[level]);
+            }
+        }
+    }
+}
