@@ -7,3 +7,6 @@ mod search;
 mod source;
 
 pub use matches::Matches;
+
+#[cfg(test)]
+mod tests;

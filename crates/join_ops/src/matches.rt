@@ -39,7 +39,7 @@ impl Matches {
     /// with all of them left.
     pub fn new(alloc: Global, s: &Shape, fixed: &[Option<u32>]) -> Result<Matches, AllocError>
         requires { length fixed.now ≡ length s.now.terms }
-        ensures { (table : List TableRow) → IfOk result (λ m. (left : List (List AnyElem)) × AreLeft table m left × AreMatches table s.now fixed.now left) }
+        ensures { IfOk result (λ m. (table : List TableRow) → (left : List (List AnyElem)) × AreLeft table m left × AreMatches table s.now fixed.now left) }
     {
         let atoms = Items::from_slice(alloc, s.atoms())?;
         let sources = sources(alloc, s.atoms(), fixed)?;

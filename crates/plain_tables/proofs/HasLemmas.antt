@@ -1,6 +1,5 @@
 -- Rows of tables among individuals, and how many elements they name.
-use Rattle.std.proofs.Common.{◌≡◌, ◌≢◌, ℕ, suc, ◌<◌, ◌⊎◌, ◌↔◌, inl, inr, false, List, [], ◌∷◌, length, map, get_or, Contains, All, AllPairs, refl, sym, ◌∙◌, ap, subst, arith}
-use Rattle.std.specs.List.{AllByRecursion}
+use Rattle.std.proofs.Common.{◌≡◌, ◌≢◌, ℕ, suc, ◌<◌, ◌⊎◌, ◌↔◌, inl, inr, false, List, [], ◌∷◌, length, map, get_or, Contains, All, AllPairs, refl, sym, ap, subst, arith}
 use Rattle.std.specs.List.Sorted.{IsStrictlySortedBy}
 use Rattle.std.specs.declared.cmp.Ordering.{Ordering}
 use Rattle.std.specs.declared.cmp.Ordering.TheVariants.{Less}
@@ -8,13 +7,12 @@ use Rattle.std.proofs.lemmas.List.Elements.{All-map, All-from_recursion, Contain
 use Rattle.std.proofs.lemmas.List.Kept.{AllPairs-cons}
 use Rattle.dl_base.specs.Tables.{TableRow, ConceptRow, RoleRow, IsIn, HasEdge, AreCounted}
 use Rattle.dl_base.specs.declared.concept.Role.{Role}
-use Rattle.dl_base.specs.declared.concept.Basic.{Basic}
 use Rattle.dl_base.specs.declared.concept.Basic.TheVariants as basic
 use Rattle.dl_base.specs.declared.element.Elem.{Elem}
 use Rattle.dl_base.specs.declared.element.Elem.TheVariants as elem
 use Rattle.dl_base.specs.declared.element.Witness.{Witness}
 use Rattle.dl_base.proofs.RisingLemmas.{contains_first, contains_later}
-use Rattle.plain_tables.specs.Kept.{AreMembers, AreEdges, member_cmp, edge_cmp, member_row, row_of}
+use Rattle.plain_tables.specs.Kept.{AreMembers, AreEdges, member_cmp}
 use Rattle.plain_tables.specs.Search.{IsSource}
 use Rattle.plain_tables.specs.declared.rows.Member.{Member}
 use Rattle.plain_tables.specs.declared.rows.Edge.{Edge}

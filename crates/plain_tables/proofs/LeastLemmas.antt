@@ -2,20 +2,19 @@
 use Rattle.std.proofs.Common.{◌≡◌, ◌≢◌, ℕ, ◌<◌, ◌≤◌, ◌⊎◌, inl, inr, Bool, true, false, not, ◌&&◌, ◌||◌, List, Contains, Option, Some, None, refl, sym, ◌∙◌, ap, subst, arith}
 use Rattle.std.specs.Prelude.{nat_lt, nat_eq}
 use Rattle.std.specs.declared.cmp.Ordering.{Ordering}
-use Rattle.std.specs.declared.cmp.Ordering.TheVariants.{Less, Equal, Greater}
-use Rattle.std.specs.Ordering.{nat_cmp}
+use Rattle.std.specs.declared.cmp.Ordering.TheVariants.{Greater}
 use Rattle.std.proofs.lemmas.Bool.Decides.{nat_tests}
-use Rattle.dl_base.specs.Tables.{ConceptRow, RoleRow, TableRow, HasEdge, IsAbove, IsLeastAbove, elem_cmp, edge_row, turned_row}
+use Rattle.dl_base.specs.Tables.{ConceptRow, TableRow, HasEdge, IsAbove, IsLeastAbove, elem_cmp, edge_row, turned_row}
 use Rattle.dl_base.specs.declared.concept.Role.{Role}
 use Rattle.dl_base.specs.declared.element.Elem.{Elem}
 use Rattle.dl_base.specs.declared.element.Witness.{Witness}
 use Rattle.dl_base.specs.declared.element.Elem.TheVariants as elem
-use Rattle.plain_tables.specs.Kept.{AreMembers, AreEdges, member_cmp, edge_cmp, is_above, member_row, row_of}
+use Rattle.plain_tables.specs.Kept.{AreMembers, AreEdges, member_cmp, edge_cmp, is_above}
 use Rattle.plain_tables.specs.Search.{IsFirstPast, member_passed, source_passed, target_passed}
 use Rattle.plain_tables.specs.declared.rows.Member.{Member}
 use Rattle.plain_tables.specs.declared.rows.Edge.{Edge}
 use Rattle.plain_tables.proofs.OrderLemmas.{member_upto, edge_upto, nat_upto}
-use Rattle.plain_tables.proofs.SearchLemmas.{passed_cases, passed_below, passed_at}
+use Rattle.plain_tables.proofs.SearchLemmas.{passed_at}
 
 above_from : (after : Option Elem) (n : ℕ) → IsAbove after (elem.Named n) → is_above after n ≡ true
 above_from None n h = refl

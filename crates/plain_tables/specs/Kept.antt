@@ -38,6 +38,7 @@ edge_of (row.Role p a b) = Some (record { role = p; from = a; to = b })
 abbrev pub back : Edge → Edge
 back x = record { role = x.role; from = x.to; to = x.from }
 
+-- the concept row, by its element
 abbrev pub member_row : Member → TableRow
 member_row m = ConceptRow m.concept (elem.Named m.individual)
 
@@ -67,7 +68,7 @@ pub record AreKept (table : List TableRow) (members : List Member) (edges turned
   pub forth : AreEdges table false edges
   pub back : AreEdges table true turned
 
--- the individual of this number is above the element, or there is none that it has to be above
+-- whether the individual of this number is above the element, or there is none that it has to be above
 abbrev pub is_above : Option Elem → ℕ → Bool
 is_above None n = true
 is_above (Some (elem.Named a)) n = nat_lt a n

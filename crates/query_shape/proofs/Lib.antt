@@ -1,3 +1,4 @@
 pub mod PlaceLemmas
 pub mod NumberingLemmas
 pub mod MatchLemmas
+pub mod MatchList

@@ -121,7 +121,7 @@ two_terms : (a : Atom) → length (terms_of a) ≤ 2
 two_terms (atom.Concept name t) = omega arith
 two_terms (atom.Role name t u) = omega arith
 
-terms_length : (atoms : List Atom) → length (flat_map terms_of atoms) ≤ 2 * length atoms
+pub terms_length : (atoms : List Atom) → length (flat_map terms_of atoms) ≤ 2 * length atoms
 terms_length [] = omega arith
 terms_length (a ∷ as') =
     let one : length (terms_of a) ≤ 2 = two_terms a in

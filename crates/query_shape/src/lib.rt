@@ -7,3 +7,6 @@ mod numbering;
 
 pub use layout::{Shape, ShapeAtom};
 pub use numbering::{ShapeError, shape};
+
+#[cfg(test)]
+mod tests;

@@ -1,5 +1,4 @@
-use Rattle.std.proofs.Common.{◌-◌, leb, ltb, rules, length, take, drop, sym, subst}
-use Rattle.std.specs.List.Sorted.{IsStrictlySortedBy}
+use Rattle.std.proofs.Common.{◌-◌, leb, ltb, rules, length, take, drop}
 use Rattle.std.proofs.lemmas.List.Sorted.{IsPartitionPoint-from_clause}
 use Rattle.plain_tables.specs.Kept.{edge_cmp}
 use Rattle.plain_tables.specs.declared.rows.Edge.{Edge}

@@ -1,4 +1,4 @@
-use Rattle.std.proofs.Common.{◌≡◌, ◌↔◌, IsTrue, Contains, subst, sym}
+use Rattle.std.proofs.Common.{◌↔◌, IsTrue, Contains, subst, sym}
 use Rattle.dl_base.specs.Tables.{RoleRow}
 use Rattle.dl_base.specs.declared.element.Elem.{Elem}
 use Rattle.dl_base.specs.declared.element.Elem.TheVariants as elem

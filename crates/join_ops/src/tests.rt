@@ -1,0 +1,146 @@
+//! Matches beside those that a small table has by hand.
+ghost use Rattle.std.specs.Prelude.{◌≡◌, length};
+
+use crate::Matches;
+use cq_reader::read_query;
+use dl_base::{Axiom, Elem, Items, Name, Names, Ontology, Row};
+use plain_tables::PlainTables;
+use query_shape::{Shape, shape};
+use std::alloc::{AllocError, Global};
+use std::process::Abort;
+use std::test::Fail;
+
+/// A(1), A(2), A(4), B(3), r(1,1), r(1,2), r(2,3), r(3,1), r(4,4), s(2,5), s(2,6).
+const CONCEPTS: [(u32, u32); 4] = [(0, 1), (0, 2), (0, 4), (1, 3)];
+
+const ROLES: [(u32, u32, u32); 7] = [
+    (0, 1, 1),
+    (0, 1, 2),
+    (0, 2, 3),
+    (0, 3, 1),
+    (0, 4, 4),
+    (1, 2, 5),
+    (1, 2, 6),
+];
+
+/// A query, the numbers of its fixed terms, and the images of its matches, one match behind another.
+const MATCHES: [(&[u8], &[Option<u32>], &[u32]); 12] = [
+    (b"q() :- r(?x, ?x)", &[None], &[1, 4]),
+    (b"q() :- A(?x), A(?x)", &[None], &[1, 2, 4]),
+    (
+        b"q() :- r(?x, ?y), r(?y, ?z), r(?z, ?x)",
+        &[None, None, None],
+        &[1, 1, 1, 1, 2, 3, 2, 3, 1, 3, 1, 2, 4, 4, 4],
+    ),
+    (
+        b"q() :- A(?x), r(?x, ?y), s(?x, ?z)",
+        &[None, None, None],
+        &[2, 3, 5, 2, 3, 6],
+    ),
+    (
+        b"q() :- B(?x), s(?y, ?z)",
+        &[None, None, None],
+        &[3, 2, 5, 3, 2, 6],
+    ),
+    (
+        b"q() :- s(?x, ?y), r(?z, ?x)",
+        &[None, None, None],
+        &[2, 5, 1, 2, 6, 1],
+    ),
+    (b"q() :- r(?x, c)", &[None, Some(3)], &[2, 3]),
+    (b"q() :- r(c, ?x)", &[Some(1), None], &[1, 1, 1, 2]),
+    (b"q() :- r(c, d)", &[Some(2), Some(3)], &[2, 3]),
+    (b"q() :- r(c, d)", &[Some(3), Some(2)], &[]),
+    (b"q() :- A(c)", &[Some(9)], &[]),
+    (b"q() :- A(?x), B(?x)", &[None], &[]),
+];
+
+fn tables(alloc: Global) -> Result<PlainTables, AllocError> {
+    let mut rows = Items::new(alloc);
+    for (concept, individual) in CONCEPTS {
+        rows.push(Row::Concept {
+            concept,
+            individual,
+        })?;
+    }
+    for (role, from, to) in ROLES {
+        rows.push(Row::Role { role, from, to })?;
+    }
+    PlainTables::new(alloc, rows)
+}
+
+fn names(alloc: Global, first: &[u8], second: &[u8]) -> Result<Names, Fail> {
+    let mut names = Items::new(alloc);
+    names.push(Name::new(alloc, first)?)?;
+    names.push(Name::new(alloc, second)?)?;
+    Ok(names)
+}
+
+fn ontology(alloc: Global) -> Result<Ontology, Fail> {
+    let axiom = Axiom::new(
+        names(alloc, b"A", b"B")?,
+        names(alloc, b"r", b"s")?,
+        Items::new(alloc),
+    );
+    Ok(Ontology::new(alloc)?.extend(alloc, &axiom)?)
+}
+
+/// The number of an individual, and of a witness one that no individual has here.
+fn number(e: &Elem) -> u32 {
+    match *e {
+        Elem::Named(individual) => individual,
+        Elem::Shared(_) => 99,
+    }
+}
+
+/// The images of up to 20 matches, one match behind another.
+fn found(
+    alloc: Global,
+    t: &PlainTables,
+    s: &Shape,
+    fixed: &[Option<u32>],
+) -> Result<Vec<u32>, AllocError>
+    requires { length fixed.now ≡ length s.now.terms }
+{
+    let mut matches = Matches::new(alloc, s, fixed)?;
+    let mut numbers = Vec::new(alloc);
+    for _ in 0..20 {
+        if !matches.advance(t) {
+            return Ok(numbers);
+        }
+        for e in matches.images() {
+            numbers.push(number(e))?;
+        }
+    }
+    Ok(numbers)
+}
+
+fn shape_of(alloc: Global, o: &Ontology, text: &[u8]) -> Result<Shape, Fail> {
+    let query = read_query(alloc, text)?;
+    Ok(shape(alloc, &query, o)?)
+}
+
+fn assert_found(
+    rt: &impl Abort,
+    alloc: Global,
+    t: &PlainTables,
+    s: &Shape,
+    fixed: &[Option<u32>],
+    wanted: &[u32],
+) -> Result<(), AllocError> {
+    assert!(rt; fixed.len() == s.terms());
+    let numbers = found(alloc, t, s, fixed)?;
+    assert_eq!(rt; numbers.as_slice(), wanted);
+    Ok(())
+}
+
+#[test]
+fn gives_each_match_once(rt: HostRuntime) -> Result<(), Fail> {
+    let t = tables(rt.alloc())?;
+    let o = ontology(rt.alloc())?;
+    for (text, fixed, wanted) in MATCHES {
+        let s = shape_of(rt.alloc(), &o, text)?;
+        assert_found(&rt, rt.alloc(), &t, &s, fixed, wanted)?;
+    }
+    Ok(())
+}

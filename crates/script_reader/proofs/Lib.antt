@@ -1,0 +1,4 @@
+pub mod BlankRules
+pub mod KeywordRules
+pub mod RowRules
+pub mod LineRules

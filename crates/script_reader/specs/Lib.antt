@@ -1,0 +1,2 @@
+pub mod DocLines
+pub mod RowReading

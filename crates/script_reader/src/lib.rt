@@ -1,0 +1,9 @@
+//! Reading the lines of a document.
+#![tactic(auto)]
+
+mod doc_line;
+
+pub use doc_line::{CommandError, DocLine, read_doc_line};
+
+#[cfg(test)]
+mod tests;
