@@ -80,8 +80,8 @@ module _ (o : Terminology) (table : List TableRow) (names : List (List ℕ)) (q 
         let one : number.number ≡ n = one_place names number.number n name.0 distinct number.at name.2 in
         map_at k.place b.shape.terms i found.0 found.1 ∙ ap Some (ap k.place name.1 ∙ (number.is ∙ ap elem.Named one))
 
-    numbers_of_key : (vs : List (List ℕ)) (places : List ℕ) (rest_of : List (List ℕ)) → AllZip (λ v n. slice_get b.shape.terms n ≡ Some (term.Var v)) vs places
-        → AllZip (λ v a. IsNumbered names (k.place (term.Var v)) a) vs rest_of → (numbers : List ℕ) × Reads images places (length names) numbers × Spells names numbers rest_of
+    numbers_of_key : (vs : List (List ℕ)) (places : List ℕ) (key_names : List (List ℕ)) → AllZip (λ v n. slice_get b.shape.terms n ≡ Some (term.Var v)) vs places
+        → AllZip (λ v a. IsNumbered names (k.place (term.Var v)) a) vs key_names → (numbers : List ℕ) × Reads images places (length names) numbers × Spells names numbers key_names
     unfolding images
     numbers_of_key [] [] [] p s = ([], tt, tt)
     numbers_of_key [] (n ∷ ns) rest p s = absurd p
@@ -109,8 +109,8 @@ module _ (o : Terminology) (table : List TableRow) (names : List (List ℕ)) (q 
     is_numbered : (e : Elem) (n : ℕ) (a : List ℕ) → e ≡ elem.Named n → slice_get names n ≡ Some a → IsNumbered names e a
     is_numbered e n a is at = subst (λ (f : Elem). IsNumbered names f a) (sym is) at
 
-    answers_of : (vs : List (List ℕ)) (places ns : List ℕ) (rest_of : List (List ℕ)) → AllZip (λ v n. slice_get b.shape.terms n ≡ Some (term.Var v)) vs places
-        → Reads found.images places (length names) ns → Spells names ns rest_of → AllZip (λ v a. IsNumbered names (placing.0 (term.Var v)) a) vs rest_of
+    answers_of : (vs : List (List ℕ)) (places ns : List ℕ) (key_names : List (List ℕ)) → AllZip (λ v n. slice_get b.shape.terms n ≡ Some (term.Var v)) vs places
+        → Reads found.images places (length names) ns → Spells names ns key_names → AllZip (λ v a. IsNumbered names (placing.0 (term.Var v)) a) vs key_names
     answers_of [] [] [] [] p r s = tt
     answers_of [] [] [] (a ∷ rest) p r s = absurd s
     answers_of [] [] (m ∷ ms) rest p r s = absurd r

@@ -1,12 +1,11 @@
 //! The answers of a query.
-ghost use Rattle.std.specs.Prelude.{◌≡◌, ◌≢◌, ◌<◌, ◌⊎◌, ◌↔◌, ℕ, List, All, AllPairs, Contains, IfOk, MatchOption, OnOk, length};
+ghost use Rattle.std.specs.Prelude.{◌≡◌, ◌<◌, ◌⊎◌, ◌↔◌, ℕ, List, All, Contains, IfOk, MatchOption, OnOk, length};
 ghost use Rattle.std.specs.Bool.{OnTrue, OnFalse};
 ghost use Rattle.dl_base.specs.Ontology.{Terminology, IsTerminology};
 ghost use Rattle.dl_base.specs.Query.{Question, IsQuery};
 ghost use Rattle.dl_base.specs.Answers.{AreAnswers};
 ghost use Rattle.dl_base.specs.Completion.{AreCompleted};
 ghost use Rattle.dl_base.specs.declared.concept.Role.{Role as AnyRole};
-ghost use Rattle.dl_base.specs.declared.element.Elem.TheVariants as elem;
 ghost use Rattle.dl_base.specs.declared.row.NamedRow.{NamedRow as AnyRow};
 ghost use Rattle.query_shape.specs.Shape.{IsLayout};
 ghost use Rattle.answer_core.specs.AnswerLaws.{HasNoSuccessorHead};
