@@ -4,13 +4,13 @@ use Rattle.dl_base.specs.Ontology.{Terminology}
 use Rattle.dl_base.specs.Query.{Question}
 use Rattle.dl_base.specs.declared.row.NamedRow.{NamedRow}
 use Rattle.obda_run.specs.Lines.{AreLines}
-use Rattle.obda_run.specs.Forms.{IsDocLine}
+use Rattle.script_reader.specs.DocLines.{IsDocLine}
 use Rattle.obda_run.specs.Document.{Context, nothing_said, with_line, Offends, Accepts, Accepted, FirstOffence, code_of, Refused, Asks, HasNoQuery, HasOffence, Says, Means, IsDocument}
-use Rattle.obda_run.specs.declared.forms.DocLine.{DocLine}
-use Rattle.obda_run.specs.declared.document.Reason.{Reason}
-use Rattle.obda_run.specs.declared.document.Reason.TheVariants as reason
+use Rattle.script_reader.specs.declared.doc_line.DocLine.{DocLine}
+use Rattle.obda_run.specs.declared.reason.Reason.{Reason}
 use Rattle.obda_run.proofs.LineLemmas.{lines_are}
-use Rattle.obda_run.proofs.FormRules.{line_once}
+use Rattle.script_reader.proofs.LineRules.{line_once}
+use Rattle.obda_run.proofs.ReasonLemmas.{reason_once}
 
 -- ---- equal lists
 
@@ -59,18 +59,6 @@ not_accepted lines n why after f accepted =
     not_accepted_here f.before f.text there.said why
     (subst (λ (c : Context). Accepts c f.text there.said) (accepted_once f.front nothing_said there.middle f.before there.accepted f.accepted) there.accepts)
     f.offends
-
--- the first reason is one
-reason_once : (before : Context) (text : List ℕ) (why why' : Reason) → Offends before text why → Offends before text why' → why ≡ why'
-reason_once before text reason.NotBuilt reason.NotBuilt x y = refl
-reason_once before text reason.NotBuilt reason.OutOfOrder x y = absurd (y.first x.holds)
-reason_once before text reason.NotBuilt reason.UnknownConcept x y = absurd (y.first.0 x.holds)
-reason_once before text reason.OutOfOrder reason.NotBuilt x y = absurd (x.first y.holds)
-reason_once before text reason.OutOfOrder reason.OutOfOrder x y = refl
-reason_once before text reason.OutOfOrder reason.UnknownConcept x y = absurd (y.first.1 x.holds)
-reason_once before text reason.UnknownConcept reason.NotBuilt x y = absurd (x.first.0 y.holds)
-reason_once before text reason.UnknownConcept reason.OutOfOrder x y = absurd (x.first.1 y.holds)
-reason_once before text reason.UnknownConcept reason.UnknownConcept x y = refl
 
 -- the same line offends, wherever it was read
 offends_same : (b b' : Context) (text text' : List ℕ) (why : Reason) → b ≡ b' → text ≡ text' → Offends b text why → Offends b' text' why

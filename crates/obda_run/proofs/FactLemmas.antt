@@ -1,403 +1,444 @@
 -- Laws of the facts of a document, as they are kept.
-use Rattle.std.proofs.Common.{◌≡◌, ◌≢◌, ℕ, suc, ◌+◌, ◌-◌, ◌^◌, ◌<◌, ◌≤◌, ◌⊎◌, ◌↔◌, inl, inr, Bool, true, false, cond, not, List, [], ◌∷◌, ◌++◌, length, get_or, slice_get, Contains, AllPairs, Option, Some, None, refl, sym, ◌∙◌, ap, subst, arith, min, if◌then◌else◌}
-use Rattle.std.specs.Prelude.{IsSome, is_some}
-use Rattle.std.specs.Map.{lookup, keys_of}
-use Rattle.std.specs.BTreeMap.{get, IsOrdered, keys, btree_map_len, is_at, Updates}
+use Rattle.std.proofs.Common.{◌≡◌, ◌≢◌, ℕ, suc, ◌<◌, ◌≤◌, ◌⊎◌, ◌↔◌, inl, inr, Bool, true, false, List, [], ◌∷◌, ◌++◌, length, get_or, slice_get, All, AllPairs, Contains, Some, refl, sym, ◌∙◌, ap, subst, arith, if◌then◌else◌}
+use Rattle.std.specs.Prelude.{IsTrue, MatchBool}
+use Rattle.std.specs.List.{list_any}
+use Rattle.std.specs.List.Sorted.{IsStrictlySortedBy}
+use Rattle.std.specs.Cmp.{IsTotalOrder}
+use Rattle.std.specs.Str.{bytes_eq}
+use Rattle.std.specs.BTreeSet.{insert_key, btree_set_len, IsEmpty}
 use Rattle.std.specs.declared.cmp.Ordering.{Ordering}
-use Rattle.std.specs.declared.cmp.Ordering.TheVariants.{Less, Equal, Greater}
-use Rattle.std.specs.Ordering.{is_eq}
-use Rattle.std.proofs.lemmas.Cmp.{tied_itself}
+use Rattle.std.specs.declared.cmp.Ordering.TheVariants.{Less, Equal}
+use Rattle.std.specs.Ordering.{match_ordering, nat_cmp}
 use Rattle.std.proofs.lemmas.Bool.{cases_order}
-use Rattle.std.proofs.lemmas.Option.{slice_get-get_or, slice_get_within}
-use Rattle.std.proofs.lemmas.Map.Entries.{length-keys_of}
+use Rattle.std.proofs.lemmas.Cmp.{tied_itself}
 use Rattle.std.proofs.lemmas.List.Elements.{Contains-append_left, Contains-push}
-use Rattle.dl_base.specs.Ontology.{Terminology}
-use Rattle.dl_base.specs.Rows.{name_cmp, row_cmp, AreRowsOf, AreIndividuals, IsIndividual, Names, Held, HasConceptRow, row_of}
-use Rattle.dl_base.specs.Sets.{HasBasic}
-use Rattle.dl_base.specs.declared.concept.Basic.{Basic}
-use Rattle.dl_base.specs.declared.concept.Basic.TheVariants as basic
+use Rattle.std.proofs.lemmas.List.Kept.{AllPairs-cons}
+use Rattle.std.proofs.lemmas.Option.{slice_get_within, slice_get-get_or}
+use Rattle.dl_base.specs.Book.{Interns}
+use Rattle.dl_base.specs.Axiom.{with_name, with_names}
+use Rattle.dl_base.specs.Ontology.{Terminology, IsTerminology}
+use Rattle.dl_base.specs.Rows.{name_cmp, row_cmp, AreRowsOf, AreIndividuals, IsIndividual, Names}
+use Rattle.dl_base.specs.contracts.row.RowOrd.TheImpl.{cmp-value as key_order}
+use Rattle.dl_base.specs.contracts.row.RowOrd.TheImpl.Laws.{total-law}
 use Rattle.dl_base.specs.declared.row.NamedRow.{NamedRow}
-use Rattle.dl_base.specs.declared.row.NamedRow.TheVariants as row
-use Rattle.dl_base.proofs.RisingLemmas.{placed, placed_rises, placed_adds, length-placed, contains_cases, contains_first, contains_later}
-use Rattle.dl_base.proofs.RowLemmas.{name_total, name_same, row_total, row_same, rows_once, individuals_once, rows_more, rows_again, contains_cut, held_through, individual_through}
-use Rattle.obda_run.specs.Document.{TooManyFacts, fact_of}
-use Rattle.obda_run.specs.Facts.{KeepsFacts, IsSetOf}
+use Rattle.dl_base.specs.declared.row.NamedRow.TheVariants as named
+use Rattle.dl_base.specs.declared.row.Row.{Row}
+use Rattle.dl_base.specs.declared.row.Row.TheVariants as row
+use Rattle.dl_base.proofs.RisingLemmas.{nat_same, placed, placed_rises, placed_adds, Adds, contains_cases, contains_first, contains_later, all_contains}
+use Rattle.dl_base.proofs.RowLemmas.{name_total, name_same, row_total, row_same, contains_cut, individual_through, none_rising, then_first, then_second}
+use Rattle.dl_base.proofs.ExtendLemmas.{name_there, interned_is}
+use Rattle.query_shape.proofs.PlaceLemmas.{member_at, place_stays, one_place, distinct_head, distinct_tail, no_more}
+use Rattle.obda_run.specs.Completed.{IsRowWithin}
+use Rattle.obda_run.specs.Document.{TooManyFacts}
+use Rattle.obda_run.specs.Facts.{KeepsFacts, NumbersRow, names_in}
 use Rattle.obda_run.specs.declared.facts.Facts.{Facts}
 
--- ---- items by their places
+-- ---- strictly rising lists
 
-pub some_same : {X : Type 0} (x y : X) → Some x ≡ Some y → x ≡ y
+module _ {X : Type 0} (cmp : X → X → Ordering) (total : IsTotalOrder cmp) (same : (x y : X) → cmp x y ≡ Equal → x ≡ y) where
+  above_other : (x y : X) → cmp x y ≡ Less → x ≢ y
+  above_other x y less e =
+      let self : cmp x x ≡ Equal = tied_itself total x in
+      let again : cmp x x ≡ Less = subst (λ (z : X). cmp x z ≡ Less) (sym e) less in
+      absurd (let f : Less ≡ Equal = sym again ∙ self in cc)
+
+  -- its members are distinct
+  pub rising_distinct : (xs : List X) → IsStrictlySortedBy cmp xs → AllPairs (λ x y. x ≢ y) xs
+  unfolding IsStrictlySortedBy
+  rising_distinct [] rises = λ i j d lt below. absurd (omega arith)
+  rising_distinct (x ∷ xs) rises =
+      AllPairs-cons (λ x y. x ≢ y) x xs
+      (λ k d below. above_other x (get_or xs k d) (all_contains (λ z. cmp x z ≡ Less) xs (get_or xs k d) rises.0 (member_at xs k (get_or xs k d) (slice_get-get_or xs k d below))))
+      (rising_distinct xs rises.1)
+
+  -- the members of a list in order
+  pub in_order : List X → List X
+  in_order [] = []
+  in_order (x ∷ xs) = placed cmp total same x (in_order xs)
+
+  pub in_order_rises : (xs : List X) → IsStrictlySortedBy cmp (in_order xs)
+  unfolding in_order
+  in_order_rises [] = none_rising cmp
+  in_order_rises (x ∷ xs) = placed_rises cmp total same x (in_order xs) (in_order_rises xs)
+
+  pub from_order : (xs : List X) (z : X) → Contains (in_order xs) z → Contains xs z
+  unfolding in_order
+  from_order [] z c = c
+  from_order (x ∷ xs) z c = elim ((placed_adds cmp total same x (in_order xs)).each z c) [
+    | inl e ↦ subst (Contains (x ∷ xs)) (sym e) (contains_first x xs)
+    | inr d ↦ contains_later x xs z (from_order xs z d)
+  ]
+
+  pub into_order : (xs : List X) (z : X) → Contains xs z → Contains (in_order xs) z
+  unfolding in_order
+  into_order [] z c = c
+  into_order (x ∷ xs) z c = elim (contains_cases x xs z c) [
+    | inl e ↦ subst (Contains (in_order (x ∷ xs))) (sym e) (placed_adds cmp total same x (in_order xs)).there
+    | inr d ↦ (placed_adds cmp total same x (in_order xs)).stays z (into_order xs z d)
+  ]
+
+  -- a set inserts a key at its place
+  insert_is : (x : X) (xs : List X) → insert_key cmp xs x ≡ placed cmp total same x xs
+  insert_is x [] = refl
+  insert_is x (y ∷ ys) = ap (λ (zs : List X). match_ordering (cmp x y) (x ∷ y ∷ ys) (y ∷ ys) (y ∷ zs)) (insert_is x ys)
+
+  pub insert_adds : (x : X) (xs ys : List X) → ys ≡ insert_key cmp xs x → Adds x xs ys
+  insert_adds x xs ys is = subst (Adds x xs) (sym (is ∙ insert_is x xs)) (placed_adds cmp total same x xs)
+
+-- ---- keys in the order of rows by number
+
+key_same : (x y : Row) → key_order.it x y ≡ Equal → x ≡ y
+key_same (row.Concept c a) (row.Concept d b) e =
+    let f = nat_same c d (then_first _ _ e) in
+    let g = nat_same a b (then_second (nat_cmp c d) _ e) in
+    λ j. row.Concept (f j) (g j)
+key_same (row.Concept c a) (row.Role q x y) e = absurd cc
+key_same (row.Role p a b) (row.Concept d x) e = absurd cc
+key_same (row.Role p a b) (row.Role q x y) e =
+    let rest = then_second (nat_cmp p q) _ e in
+    let f = nat_same p q (then_first _ _ e) in
+    let g = nat_same a x (then_first _ _ rest) in
+    let h = nat_same b y (then_second (nat_cmp a x) _ rest) in
+    λ j. row.Role (f j) (g j) (h j)
+
+-- they are distinct
+pub keys_distinct : (keys : List Row) → IsStrictlySortedBy key_order.it keys → AllPairs (λ x y. x ≢ y) keys
+keys_distinct = rising_distinct key_order.it total-law key_same
+
+-- and one more goes to its place
+pub key_adds : (n : Row) (old before new : List Row) → before ≡ old → new ≡ insert_key key_order.it before n → Adds n old new
+key_adds n old before new same is = insert_adds key_order.it total-law key_same n old new (is ∙ ap (λ (keys : List Row). insert_key key_order.it keys n) same)
+
+-- ---- partners in another list
+
+-- each member of xs has a partner in ys, which no other has
+record HavePartners {X Y : Type 0} (R : X → Y → Type 0) (xs : List X) (ys : List Y) : Type 0 where
+  partner : (x : X) → Contains xs x → (y : Y) × Contains ys y × R x y
+  once : (x z : X) (y : Y) → R x y → R z y → x ≡ z
+
+record Partners {X Y : Type 0} (R : X → Y → Type 0) (xs : List X) (ys : List Y) : Type 0 where
+  list : List Y
+  length_is : length list ≡ length xs
+  distinct : AllPairs (λ y z. y ≢ z) list
+  within : (y : Y) → Contains list y → Contains ys y
+  whose : (y : Y) → Contains list y → (x : X) × Contains xs x × R x y
+
+partners : {X Y : Type 0} (R : X → Y → Type 0) (xs : List X) (ys : List Y) → AllPairs (λ x z. x ≢ z) xs → HavePartners R xs ys → Partners R xs ys
+partners R [] ys distinct have = record { list = []; length_is = refl; distinct = λ i j d lt below. absurd (omega arith); within = λ y c. absurd (omega (arith, c.1)); whose = λ y c. absurd (omega (arith, c.1)) }
+partners {X} {Y} R (x ∷ xs) ys distinct have =
+    let found : (y : Y) × Contains ys y × R x y = have.partner x (contains_first x xs) in
+    let rest : Partners R xs ys = partners R xs ys (distinct_tail x xs distinct) (record { partner = λ z c. have.partner z (contains_later x xs z c); once = have.once }) in
+    by found rest
+  where
+    other : (found : (y : Y) × Contains ys y × R x y) (rest : Partners R xs ys) (z : Y) → Contains rest.list z → found.0 ≢ z
+    other found rest z c e =
+        let w : (x' : X) × Contains xs x' × R x' z = rest.whose z c in
+        distinct_head x xs distinct w.0 w.1 (have.once w.0 x z w.2 (subst (R x) e found.2))
+
+    by : (found : (y : Y) × Contains ys y × R x y) → Partners R xs ys → Partners R (x ∷ xs) ys
+    by found rest = record {
+      list = found.0 ∷ rest.list;
+      length_is = ap suc rest.length_is;
+      distinct = AllPairs-cons (λ y z. y ≢ z) found.0 rest.list (λ k d below. other found rest (get_or rest.list k d) (member_at rest.list k (get_or rest.list k d) (slice_get-get_or rest.list k d below))) rest.distinct;
+      within = λ y c. elim (contains_cases found.0 rest.list y c) [ inl e ↦ subst (Contains ys) (sym e) found.1 | inr d ↦ rest.within y d ];
+      whose = λ y c. elim (contains_cases found.0 rest.list y c) [
+        | inl e ↦ (x, contains_first x xs, subst (R x) (sym e) found.2)
+        | inr d ↦ let w : (x' : X) × Contains xs x' × R x' y = rest.whose y d in (w.0, contains_later x xs w.0 w.1, w.2)
+      ];
+    }
+
+-- distinct items with partners of their own are no more than these
+no_more_than : {X Y : Type 0} (R : X → Y → Type 0) (xs : List X) (ys : List Y) → AllPairs (λ x z. x ≢ z) xs → HavePartners R xs ys → length xs ≤ length ys
+no_more_than R xs ys distinct have =
+    let p : Partners R xs ys = partners R xs ys distinct have in
+    let few : length p.list ≤ length ys = no_more p.list ys p.distinct p.within in
+    omega (arith, p.length_is)
+
+-- ---- names with more
+
+name_keeps_place : (names : List (List ℕ)) (more : List ℕ) (k : ℕ) (x : List ℕ) → slice_get names k ≡ Some x → slice_get (with_name names more) k ≡ Some x
+name_keeps_place names more k x at = by (list_any (bytes_eq more) names)
+  where
+    by : (b : Bool) → slice_get (if b then names else names ++ more ∷ []) k ≡ Some x
+    by true = at
+    by false = place_stays names (more ∷ []) k x at
+
+names_keep_place : (names more : List (List ℕ)) (k : ℕ) (x : List ℕ) → slice_get names k ≡ Some x → slice_get (with_names names more) k ≡ Some x
+names_keep_place names [] k x at = at
+names_keep_place names (y ∷ ys) k x at = names_keep_place (with_name names y) ys k x (name_keeps_place names y k x at)
+
+name_stays : (names : List (List ℕ)) (more name : List ℕ) → Contains names name → Contains (with_name names more) name
+name_stays names more name c = by (list_any (bytes_eq more) names)
+  where
+    by : (b : Bool) → Contains (if b then names else names ++ more ∷ []) name
+    by true = c
+    by false = Contains-append_left names (more ∷ []) name c
+
+name_cases : (names : List (List ℕ)) (more x : List ℕ) → Contains (with_name names more) x → (x ≡ more) ⊎ Contains names x
+name_cases names more x = by (list_any (bytes_eq more) names)
+  where
+    by : (b : Bool) → Contains (if b then names else names ++ more ∷ []) x → (x ≡ more) ⊎ Contains names x
+    by true c = inr c
+    by false c = contains_cut names more x c
+
+-- a name is the row's, or was there
+names_cases : (names : List (List ℕ)) (r : NamedRow) (x : List ℕ) → Contains (with_names names (names_in r)) x → Names x r ⊎ Contains names x
+names_cases names (named.Concept c a) x there = name_cases names a x there
+names_cases names (named.Role p a b) x there = elim (name_cases (with_name names a) b x there) [
+  | inl e ↦ inl (inr e)
+  | inr d ↦ elim (name_cases names a x d) [ inl e ↦ inl (inl e) | inr old ↦ inr old ]
+]
+
+names_old : (names : List (List ℕ)) (r : NamedRow) (x : List ℕ) → Contains names x → Contains (with_names names (names_in r)) x
+names_old names (named.Concept c a) x old = name_stays names a x old
+names_old names (named.Role p a b) x old = name_stays (with_name names a) b x (name_stays names a x old)
+
+names_new : (names : List (List ℕ)) (r : NamedRow) (x : List ℕ) → Names x r → Contains (with_names names (names_in r)) x
+names_new names (named.Concept c a) x e = subst (Contains (with_name names a)) (sym e) (name_there names a)
+names_new names (named.Role p a b) x (inl e) = name_stays (with_name names a) b x (subst (Contains (with_name names a)) (sym e) (name_there names a))
+names_new names (named.Role p a b) x (inr e) = subst (Contains (with_name (with_name names a) b)) (sym e) (name_there (with_name names a) b)
+
+-- what two names leave, one after the other
+pub names_two : (old mid new : List (List ℕ)) (a b : List ℕ) (n m : ℕ) → Interns old a mid n → Interns mid b new m → new ≡ with_names old (a ∷ b ∷ [])
+names_two old mid new a b n m first second = interned_is mid new b m second ∙ ap (λ (xs : List (List ℕ)). with_name xs b) (interned_is old mid a n first)
+
+-- ---- rows by name and by number
+
+-- a role row by the numbers that its individuals were given one after the other
+pub numbered_role : (o : Terminology) (old mid new : List (List ℕ)) (p a b : List ℕ) (place n m : ℕ) → Interns old a mid n → Interns mid b new m → slice_get o.roles place ≡ Some p
+    → NumbersRow o new (named.Role p a b) (row.Role place n m)
+numbered_role o old mid new p a b place n m first second at =
+    (at, subst (λ (xs : List (List ℕ)). slice_get xs n ≡ Some a) (sym (interned_is mid new b m second)) (name_keeps_place mid b n a first.there), second.there)
+
+some_same : {X : Type 0} (x y : X) → Some x ≡ Some y → x ≡ y
 some_same x y e = cc
 
-pub got_there : {X : Type 0} (xs : List X) (i : ℕ) (x : X) → slice_get xs i ≡ Some x → Contains xs x
-got_there xs i x is =
-    let within : i < length xs = slice_get_within xs i x is in
-    (i, within, some_same (get_or xs i x) x (sym (slice_get-get_or xs i x within) ∙ is))
+same_item : {X : Type 0} (xs : List X) (k : ℕ) (x y : X) → slice_get xs k ≡ Some x → slice_get xs k ≡ Some y → x ≡ y
+same_item xs k x y e f = some_same x y (sym e ∙ f)
 
--- a name has one place in a book of distinct names
-pub one_place : (names : List (List ℕ)) (name : List ℕ) (i j : ℕ) → AllPairs (λ x y. x ≢ y) names → slice_get names i ≡ Some name → slice_get names j ≡ Some name → i ≡ j
-one_place names name i j distinct at_i at_j =
-    let a : get_or names i [] ≡ name = some_same _ _ (sym (slice_get-get_or names i [] (slice_get_within names i name at_i)) ∙ at_i) in
-    let b : get_or names j [] ≡ name = some_same _ _ (sym (slice_get-get_or names j [] (slice_get_within names j name at_j)) ∙ at_j) in
-    elim (cases_order i j) [
-      | inl same ↦ same
-      | inr either ↦ elim either [
-        | inl below ↦ absurd (distinct i j [] below (slice_get_within names j name at_j) (a ∙ sym b))
-        | inr above ↦ absurd (distinct j i [] above (slice_get_within names i name at_i) (b ∙ sym a))
-      ]
-    ]
+-- a row by number is of one row by name
+one_name : (o : Terminology) (names : List (List ℕ)) (r s : NamedRow) (n : Row) → NumbersRow o names r n → NumbersRow o names s n → r ≡ s
+one_name o names (named.Concept c a) (named.Concept d b) (row.Concept k n) e f =
+    let g = same_item o.concepts k c d e.0 f.0 in
+    let h = same_item names n a b e.1 f.1 in
+    λ j. named.Concept (g j) (h j)
+one_name o names (named.Role p a b) (named.Role q x y) (row.Role k n m) e f =
+    let g = same_item o.roles k p q e.0 f.0 in
+    let h = same_item names n a x e.1 f.1 in
+    let i = same_item names m b y e.2 f.2 in
+    λ j. named.Role (g j) (h j) (i j)
+one_name o names (named.Concept c a) s (row.Role k n m) e f = absurd e
+one_name o names (named.Role p a b) s (row.Concept k n) e f = absurd e
+one_name o names (named.Concept c a) (named.Role q x y) (row.Concept k n) e f = absurd f
+one_name o names (named.Role p a b) (named.Concept d x) (row.Role k n m) e f = absurd f
 
--- ---- keys of a map
+-- and a row by name has one number
+one_number : (o : Terminology) (names : List (List ℕ)) (r : NamedRow) (n m : Row) → IsTerminology o → AllPairs (λ x y. x ≢ y) names
+    → NumbersRow o names r n → NumbersRow o names r m → n ≡ m
+one_number o names (named.Concept c a) (row.Concept k n) (row.Concept l m) is distinct e f =
+    let g = one_place o.concepts k l c is.distinct_concepts e.0 f.0 in
+    let h = one_place names n m a distinct e.1 f.1 in
+    λ j. row.Concept (g j) (h j)
+one_number o names (named.Role p a b) (row.Role k n m) (row.Role l i j) is distinct e f =
+    let g = one_place o.roles k l p is.distinct_roles e.0 f.0 in
+    let h = one_place names n i a distinct e.1 f.1 in
+    let u = one_place names m j b distinct e.2 f.2 in
+    λ t. row.Role (g t) (h t) (u t)
+one_number o names (named.Concept c a) (row.Role k n m) y is distinct e f = absurd e
+one_number o names (named.Role p a b) (row.Concept k n) y is distinct e f = absurd e
+one_number o names (named.Concept c a) (row.Concept k n) (row.Role l i j) is distinct e f = absurd f
+one_number o names (named.Role p a b) (row.Role k n m) (row.Concept l i) is distinct e f = absurd f
 
-equal_is : (r : Ordering) → is_eq r ≡ true → r ≡ Equal
-equal_is Less e = absurd cc
-equal_is Equal e = refl
-equal_is Greater e = absurd cc
+-- where the names keep their places, so does the row
+number_stays : (o : Terminology) (old new : List (List ℕ)) (r : NamedRow) (n : Row)
+    → ((k : ℕ) (x : List ℕ) → slice_get old k ≡ Some x → slice_get new k ≡ Some x) → NumbersRow o old r n → NumbersRow o new r n
+number_stays o old new (named.Concept c a) (row.Concept k n) keep e = (e.0, keep n a e.1)
+number_stays o old new (named.Role p a b) (row.Role k n m) keep e = (e.0, keep n a e.1, keep m b e.2)
+number_stays o old new (named.Concept c a) (row.Role k n m) keep e = absurd e
+number_stays o old new (named.Role p a b) (row.Concept k n) keep e = absurd e
 
-pub at_same : (a x : List ℕ) → is_at (name_cmp a) x ≡ true → a ≡ x
-at_same a x e = name_same a x (equal_is (name_cmp a x) e)
+-- ---- the facts, whether they are within the limits or not
 
-at_itself : (a : List ℕ) → is_at (name_cmp a) a ≡ true
-at_itself a = ap is_eq (tied_itself name_total a)
+pub record Tracks (o : Terminology) (asserted : List NamedRow) (names : List (List ℕ)) (keys : List Row) : Type 0 where
+  pub distinct : AllPairs (λ x y. x ≢ y) names
+  pub individual : (a : List ℕ) → Contains names a ↔ IsIndividual asserted a
+  pub each : (r : NamedRow) → Contains asserted r → (n : Row) × Contains keys n × NumbersRow o names r n
+  pub only : (n : Row) → Contains keys n → (r : NamedRow) × Contains asserted r × NumbersRow o names r n
 
-at_other : (a x : List ℕ) → is_at (name_cmp a) x ≡ false → x ≢ a
-at_other a x e same = let f : is_at (name_cmp a) a ≡ false = subst (λ (y : List ℕ). is_at (name_cmp a) y ≡ false) same e in let g = at_itself a in absurd cc
+pub tracks : (o : Terminology) (asserted : List NamedRow) (facts : Facts) → KeepsFacts o asserted facts → Tracks o asserted facts.individuals facts.rows.keys
+tracks o asserted facts k = record { distinct = k.distinct; individual = k.individual; each = k.each; only = k.only }
 
-pub key_found : {X : Type 0} (a : List ℕ) (es : List (List ℕ × X)) → IsSome (lookup (is_at (name_cmp a)) es) → Contains (keys_of es) a
-key_found a [] found = absurd cc
-key_found {X} a (e ∷ es) found = by (is_at (name_cmp a) e.0) refl (key_found a es)
-  where
-    by : (t : Bool) → is_at (name_cmp a) e.0 ≡ t → (IsSome (lookup (is_at (name_cmp a)) es) → Contains (keys_of es) a) → Contains (e.0 ∷ keys_of es) a
-    by true h more = subst (Contains (e.0 ∷ keys_of es)) (sym (at_same a e.0 h)) (contains_first e.0 (keys_of es))
-    by false h more = contains_later e.0 (keys_of es) a (more (let f : IsSome (cond false (Some e.1) (lookup (is_at (name_cmp a)) es)) = rw h at found in f))
+-- what is asserted in order, each row once
+pub rows_in_order : (asserted : List NamedRow) → AreRowsOf asserted (in_order row_cmp row_total row_same asserted)
+rows_in_order asserted = record {
+  rising = in_order_rises row_cmp row_total row_same asserted;
+  only = from_order row_cmp row_total row_same asserted;
+  each = into_order row_cmp row_total row_same asserted;
+}
 
-pub found_key : {X : Type 0} (a : List ℕ) (es : List (List ℕ × X)) → Contains (keys_of es) a → IsSome (lookup (is_at (name_cmp a)) es)
-found_key a [] there = absurd (omega arith)
-found_key {X} a (e ∷ es) there = by (is_at (name_cmp a) e.0) refl (contains_cases e.0 (keys_of es) a there) (found_key a es)
-  where
-    by : (t : Bool) → is_at (name_cmp a) e.0 ≡ t → (a ≡ e.0) ⊎ Contains (keys_of es) a → (Contains (keys_of es) a → IsSome (lookup (is_at (name_cmp a)) es)) → IsSome (cond t (Some e.1) (lookup (is_at (name_cmp a)) es))
-    by true h either more = refl
-    by false h (inl same) more = absurd (at_other a e.0 h (sym same))
-    by false h (inr later) more = more later
+module _ (o : Terminology) (asserted : List NamedRow) (names : List (List ℕ)) (keys : List Row) (t : Tracks o asserted names keys) where
+  -- distinct rows by name are no more than the rows by number
+  rows_few : (rows : List NamedRow) → AreRowsOf asserted rows → length rows ≤ length keys
+  rows_few rows are = no_more_than (NumbersRow o names) rows keys (rising_distinct row_cmp row_total row_same rows are.rising) (record {
+    partner = λ r c. t.each r (are.only r c);
+    once = one_name o names;
+  })
 
--- ---- the limits
+  -- and the other way
+  keys_few : IsTerminology o → AllPairs (λ x y. x ≢ y) keys → (rows : List NamedRow) → AreRowsOf asserted rows → length keys ≤ length rows
+  keys_few is distinct rows are = no_more_than (λ n r. NumbersRow o names r n) keys rows distinct (record {
+    partner = λ n c. let found = t.only n c in (found.0, are.each found.0 found.1, found.2);
+    once = λ n m r. one_number o names r n m is t.distinct;
+  })
 
--- whether the facts pass a limit, by their rows and individuals
-pub too_many_is : (asserted rows : List NamedRow) (names : List (List ℕ)) → AreRowsOf asserted rows → AreIndividuals asserted names
-    → TooManyFacts asserted ↔ ((1000000 < length rows) ⊎ (65536 < length names))
-too_many_is asserted rows names are named = (
-  λ many. elim many [
-    | inl more ↦ inl (subst (λ (xs : List NamedRow). 1000000 < length xs) (rows_once asserted more.0 rows more.1 are) more.2)
-    | inr more ↦ inr (subst (λ (xs : List (List ℕ)). 65536 < length xs) (individuals_once asserted more.0 names more.1 named) more.2)
-  ],
-  λ either. elim either [ inl more ↦ inl (rows, are, more) | inr more ↦ inr (names, named, more) ],
-)
+  names_few : (some : List (List ℕ)) → AreIndividuals asserted some → length some ≤ length names
+  names_few some are = no_more some names (rising_distinct name_cmp name_total name_same some are.rising) (λ a c. (t.individual a).1 (are.only a c))
 
--- a name that a row doesn't have is not one of its individual
-names_fact : (name a x : List ℕ) → Names x (fact_of name a) → x ≡ a
-names_fact name a x same = same
+  too_few : (some : List (List ℕ)) → AreIndividuals asserted some → length names ≤ length some
+  too_few some are = no_more names some t.distinct (λ a c. are.each a ((t.individual a).0 c))
 
--- ---- one more fact
-
-module _ (o : Terminology) (asserted : List NamedRow) (facts : Facts) (k : KeepsFacts o asserted facts) (name a : List ℕ) where
-  pub fact_names : Contains asserted (fact_of name a) → IsIndividual asserted a
-  fact_names there = (fact_of name a, there, refl)
-
-  -- the individuals are the keys
-  pub individuals_are : AreIndividuals asserted (keys facts.held)
-  individuals_are = record {
-    rising = k.ordered;
-    only = λ x there. (k.named x).0 (found_key x facts.held.entries there);
-    each = λ x named. key_found x facts.held.entries ((k.named x).1 named);
+  -- the individuals in order
+  names_in_order : AreIndividuals asserted (in_order name_cmp name_total name_same names)
+  names_in_order = record {
+    rising = in_order_rises name_cmp name_total name_same names;
+    only = λ a c. (t.individual a).0 (from_order name_cmp name_total name_same names a c);
+    each = λ a i. into_order name_cmp name_total name_same names a ((t.individual a).1 i);
   }
 
-  individual_more : (x : List ℕ) → IsIndividual (asserted ++ fact_of name a ∷ []) x → (x ≡ a) ⊎ IsIndividual asserted x
-  individual_more x (r, there, names) = elim (contains_cut asserted (fact_of name a) r there) [
-    | inl same ↦ inl (names_fact name a x (subst (Names x) same names))
-    | inr before ↦ inr (r, before, names)
+  -- past a limit there are too many facts
+  too_many_rows : IsTerminology o → AllPairs (λ x y. x ≢ y) keys → 1000000 < length keys → TooManyFacts asserted
+  too_many_rows is distinct many =
+      let few = keys_few is distinct (in_order row_cmp row_total row_same asserted) (rows_in_order asserted) in
+      inl (in_order row_cmp row_total row_same asserted, rows_in_order asserted, omega arith)
+
+  too_many_names : 65536 < length names → TooManyFacts asserted
+  too_many_names many =
+      let few = too_few (in_order name_cmp name_total name_same names) names_in_order in
+      inr (in_order name_cmp name_total name_same names, names_in_order, omega arith)
+
+  pub past_a_limit : IsTerminology o → AllPairs (λ x y. x ≢ y) keys → ((length keys ≤ 1000000) × (length names ≤ 65536) → ⊥) → TooManyFacts asserted
+  past_a_limit is distinct past = elim (cases_order 1000000 (length keys)) [
+    | inl same ↦ of_names (omega arith)
+    | inr either ↦ elim either [ inl many ↦ too_many_rows is distinct many | inr few ↦ of_names (omega arith) ]
   ]
-
-  individual_stays : (x : List ℕ) → IsIndividual asserted x → IsIndividual (asserted ++ fact_of name a ∷ []) x
-  individual_stays = individual_through asserted (asserted ++ fact_of name a ∷ []) (λ r c. Contains-append_left asserted (fact_of name a ∷ []) r c)
-
-  individual_now : IsIndividual (asserted ++ fact_of name a ∷ []) a
-  individual_now = (fact_of name a, Contains-push asserted (fact_of name a), refl)
-
-  -- the individuals with one more fact
-  individuals_again : IsIndividual asserted a → AreIndividuals (asserted ++ fact_of name a ∷ []) (keys facts.held)
-  individuals_again known = record {
-    rising = individuals_are.rising;
-    only = λ x there. individual_stays x (individuals_are.only x there);
-    each = λ x named. elim (individual_more x named) [
-      | inl same ↦ individuals_are.each x (subst (IsIndividual asserted) (sym same) known)
-      | inr before ↦ individuals_are.each x before
-    ];
-  }
-
-  individuals_more : AreIndividuals (asserted ++ fact_of name a ∷ []) (placed name_cmp name_total name_same a (keys facts.held))
-  individuals_more =
-      let adds = placed_adds name_cmp name_total name_same a (keys facts.held) in
-      record {
-        rising = placed_rises name_cmp name_total name_same a (keys facts.held) individuals_are.rising;
-        only = λ x there. elim (adds.each x there) [
-          | inl same ↦ subst (IsIndividual (asserted ++ fact_of name a ∷ [])) (sym same) individual_now
-          | inr before ↦ individual_stays x (individuals_are.only x before)
-        ];
-        each = λ x named. elim (individual_more x named) [
-          | inl same ↦ subst (Contains (placed name_cmp name_total name_same a (keys facts.held))) (sym same) adds.there
-          | inr before ↦ adds.stays x (individuals_are.each x before)
-        ];
-      }
-
-  length-keys : length (keys facts.held) ≡ btree_map_len facts.held
-  length-keys = length-keys_of facts.held.entries
-
-  new_individual : is_some (get name_cmp facts.held a) ≡ false → Contains (keys facts.held) a → ⊥
-  new_individual absent there = let found : is_some (get name_cmp facts.held a) ≡ true = found_key a facts.held.entries there in absurd cc
-
-  -- a fact that is there already passes no limit
-  pub again_fits : Contains asserted (fact_of name a) → TooManyFacts (asserted ++ fact_of name a ∷ []) → ⊥
-  again_fits there many =
-      elim ((too_many_is (asserted ++ fact_of name a ∷ []) k.rows (keys facts.held) (rows_again asserted k.rows (fact_of name a) k.are there) (individuals_again (fact_names there))).0 many) [
-        | inl more ↦ omega (arith, k.few_rows)
-        | inr more ↦ omega (arith, k.few, length-keys)
+    where
+      of_names : length keys ≤ 1000000 → TooManyFacts asserted
+      of_names few = elim (cases_order 65536 (length names)) [
+        | inl same ↦ absurd (past (few, omega arith))
+        | inr either ↦ elim either [ inl many ↦ too_many_names many | inr less ↦ absurd (past (few, omega arith)) ]
       ]
 
-  rows_now : AreRowsOf (asserted ++ fact_of name a ∷ []) (placed row_cmp row_total row_same (fact_of name a) k.rows)
-  rows_now = rows_more asserted k.rows (fact_of name a) k.are
+  -- and within the limits there aren't
+  pub not_too_many : length keys ≤ 1000000 → length names ≤ 65536 → TooManyFacts asserted → ⊥
+  not_too_many rows individuals (inl (some, are, many)) = let few = rows_few some are in omega arith
+  not_too_many rows individuals (inr (some, are, many)) = let few = names_few some are in omega arith
 
-  one_longer : (Contains asserted (fact_of name a) → ⊥) → length (placed row_cmp row_total row_same (fact_of name a) k.rows) ≡ suc (length k.rows)
-  one_longer new = length-placed row_cmp row_total row_same (fact_of name a) k.rows (λ there. new (k.are.only (fact_of name a) there))
+  -- ---- one more row
 
-  -- a new fact passes a limit where there is no room for its row
-  pub row_passes : (Contains asserted (fact_of name a) → ⊥) → 1000000 ≤ facts.rows → TooManyFacts (asserted ++ fact_of name a ∷ [])
-  row_passes new full = inl (placed row_cmp row_total row_same (fact_of name a) k.rows, rows_now, omega (arith, one_longer new, k.count))
-
-  -- or for its individual
-  pub individual_passes : is_some (get name_cmp facts.held a) ≡ false → 65536 ≤ btree_map_len facts.held → TooManyFacts (asserted ++ fact_of name a ∷ [])
-  individual_passes absent full =
-      inr (placed name_cmp name_total name_same a (keys facts.held), individuals_more, omega (arith, length-placed name_cmp name_total name_same a (keys facts.held) (new_individual absent), length-keys))
-
-  -- and none else
-  known_fits : (Contains asserted (fact_of name a) → ⊥) → facts.rows < 1000000 → IsSome (get name_cmp facts.held a) → TooManyFacts (asserted ++ fact_of name a ∷ []) → ⊥
-  known_fits new room known many =
-      elim ((too_many_is (asserted ++ fact_of name a ∷ []) _ (keys facts.held) rows_now (individuals_again ((k.named a).0 known))).0 many) [
-        | inl more ↦ omega (arith, one_longer new, k.count)
-        | inr more ↦ omega (arith, k.few, length-keys)
-      ]
-
-  new_fits : (Contains asserted (fact_of name a) → ⊥) → facts.rows < 1000000 → is_some (get name_cmp facts.held a) ≡ false → btree_map_len facts.held < 65536 → TooManyFacts (asserted ++ fact_of name a ∷ []) → ⊥
-  new_fits new room absent few many =
-      elim ((too_many_is (asserted ++ fact_of name a ∷ []) _ _ rows_now individuals_more).0 many) [
-        | inl more ↦ omega (arith, one_longer new, k.count)
-        | inr more ↦ omega (arith, length-placed name_cmp name_total name_same a (keys facts.held) (new_individual absent), length-keys)
-      ]
-
-  -- there is room for the individual
-  abbrev pub HasPlace : Type 0
-  HasPlace = IsSome (get name_cmp facts.held a) ⊎ (btree_map_len facts.held < 65536)
-
-  pub row_fits : (Contains asserted (fact_of name a) → ⊥) → facts.rows < 1000000 → HasPlace → TooManyFacts (asserted ++ fact_of name a ∷ []) → ⊥
-  row_fits new room place many = by (is_some (get name_cmp facts.held a)) refl place
-    where
-      by : (t : Bool) → is_some (get name_cmp facts.held a) ≡ t → HasPlace → ⊥
-      by true known either = known_fits new room known many
-      by false absent (inl known) = absurd cc
-      by false absent (inr few) = new_fits new room absent few many
-
-  pub no_place : (HasPlace → ⊥) → TooManyFacts (asserted ++ fact_of name a ∷ [])
-  no_place none = by (is_some (get name_cmp facts.held a)) refl
-    where
-      by : (t : Bool) → is_some (get name_cmp facts.held a) ≡ t → TooManyFacts (asserted ++ fact_of name a ∷ [])
-      by true known = absurd (none (inl known))
-      by false absent = individual_passes absent (elim (cases_order (btree_map_len facts.held) 65536) [
-        | inl same ↦ omega arith
-        | inr either ↦ elim either [ inl below ↦ absurd (none (inr below)) | inr above ↦ omega arith ]
-      ])
-
-  -- where there is room for a row, no limit is passed
-  pub not_full : facts.rows < 1000000 → HasPlace → TooManyFacts (asserted ++ fact_of name a ∷ []) → ⊥
-  not_full room place many = let new : Contains asserted (fact_of name a) → ⊥ = λ there. again_fits there many in row_fits new room place many
-
-  -- where there is none, a new fact passes it
-  pub full_is : (there : Bool) → 1000000 ≤ facts.rows → ((there ≡ true) ↔ Contains asserted (fact_of name a)) → (not there ≡ true) ↔ TooManyFacts (asserted ++ fact_of name a ∷ [])
-  full_is true full t = (λ no. absurd cc, λ many. absurd (again_fits (t.0 refl) many))
-  full_is false full t = (λ _. row_passes (λ there. absurd (let e : false ≡ true = t.1 there in cc)) full, λ _. refl)
-
-  -- ---- what is held
-
-  -- the set that is found has exactly what is held
-  pub set_has : (set : List ℕ) (b : Basic) → IsSetOf (get name_cmp facts.held a) set → HasBasic set b ↔ Held o asserted a b
-  set_has set b is = by (get name_cmp facts.held a) refl is
-    where
-      held_names : (b : Basic) → Held o asserted a b → IsIndividual asserted a
-      held_names (basic.Concept c) h = (row.Concept h.name a, h.there, refl)
-      held_names (basic.Exists r) (x, h) = (row_of h.name r.inverse a x, h.there, ends h.name r.inverse x)
-        where
-          ends : (p : List ℕ) (inverse : Bool) (x : List ℕ) → Names a (row_of p inverse a x)
-          ends p true x = inr refl
-          ends p false x = inl refl
-
-      by : (found : Option (List ℕ)) → get name_cmp facts.held a ≡ found → IsSetOf found set → HasBasic set b ↔ Held o asserted a b
-      by None absent none = (
-        λ has. absurd (none b has),
-        λ held. absurd (let some : is_some (get name_cmp facts.held a) ≡ true = (k.named a).1 (held_names b held) in let e : is_some {T = List ℕ} None ≡ true = rw absent at some in cc),
-      )
-      by (Some found) there same = let h = k.held a found there b in (λ has. h.0 (subst (λ (s : List ℕ). HasBasic s b) same has), λ held. subst (λ (s : List ℕ). HasBasic s b) (sym same) (h.1 held))
-
-  -- whether the fact is there, by the set
-  pub has_fact : (set : List ℕ) (place : ℕ) → IsSetOf (get name_cmp facts.held a) set → slice_get o.concepts place ≡ Some name → HasBasic set (basic.Concept place) ↔ Contains asserted (fact_of name a)
-  has_fact set place is named = (
-    λ has. let held : HasConceptRow o asserted place a = (set_has set (basic.Concept place) is).0 has in
-        subst (λ (n : List ℕ). Contains asserted (fact_of n a)) (some_same held.name name (sym held.named ∙ named)) held.there,
-    λ there. (set_has set (basic.Concept place) is).1 (record { name = name; named = named; there = there }),
-  )
-
-  -- a fact of an unknown concept is not there
-  pub unknown_new : (Contains o.concepts name → ⊥) → Contains asserted (fact_of name a) → ⊥
-  unknown_new unknown there = unknown (k.known name a there)
-
-  -- ---- one more fact is kept
-
-  before : ((r : NamedRow) → Contains asserted r → Contains (asserted ++ fact_of name a ∷ []) r)
-  before r c = Contains-append_left asserted (fact_of name a ∷ []) r c
-
-  pub kept_again : Contains asserted (fact_of name a) → KeepsFacts o (asserted ++ fact_of name a ∷ []) facts
-  kept_again there = record {
-    rows = k.rows;
-    are = rows_again asserted k.rows (fact_of name a) k.are there;
-    count = k.count;
-    few_rows = k.few_rows;
-    few = k.few;
-    ordered = k.ordered;
-    named = λ x. (
-      λ some. individual_stays x ((k.named x).0 some),
-      λ named. elim (individual_more x named) [
-        | inl same ↦ subst (λ (y : List ℕ). IsSome (get name_cmp facts.held y)) (sym same) (known_when)
-        | inr old ↦ (k.named x).1 old
-      ],
-    );
-    held = λ x set is b. (
-      λ has. held_through o asserted (asserted ++ fact_of name a ∷ []) before x b ((k.held x set is b).0 has),
-      λ held. (k.held x set is b).1 (held_through o (asserted ++ fact_of name a ∷ []) asserted back x b held),
-    );
-    known = λ n x c. k.known n x (back (row.Concept n x) c);
-    no_roles = λ p x y c. k.no_roles p x y (back (row.Role p x y) c);
-  }
-    where
-      known_when : IsSome (get name_cmp facts.held a)
-      known_when = (k.named a).1 (fact_names there)
-
-      back : (r : NamedRow) → Contains (asserted ++ fact_of name a ∷ []) r → Contains asserted r
-      back r c = elim (contains_cut asserted (fact_of name a) r c) [ inl same ↦ subst (Contains asserted) (sym same) there | inr old ↦ old ]
-
-  same_fact : (n x : List ℕ) → row.Concept n x ≡ fact_of name a → (n ≡ name) × (x ≡ a)
-  same_fact n x e = (cc, cc)
-
-  no_role_fact : (p x y : List ℕ) → row.Role p x y ≡ fact_of name a → ⊥
-  no_role_fact p x y e = cc
-
-  role_before : (p : List ℕ) (inverse : Bool) (x y : List ℕ) → Contains (asserted ++ fact_of name a ∷ []) (row_of p inverse x y) → Contains asserted (row_of p inverse x y)
-  role_before p true x y c = elim (contains_cut asserted (fact_of name a) (row.Role p y x) c) [ inl same ↦ absurd (no_role_fact p y x same) | inr old ↦ old ]
-  role_before p false x y c = elim (contains_cut asserted (fact_of name a) (row.Role p x y) c) [ inl same ↦ absurd (no_role_fact p x y same) | inr old ↦ old ]
-
-  -- what is held with one more fact
-  held_before : (x : List ℕ) (b : Basic) → x ≢ a → Held o (asserted ++ fact_of name a ∷ []) x b → Held o asserted x b
-  held_before x (basic.Concept c) other h = elim (contains_cut asserted (fact_of name a) (row.Concept h.name x) h.there) [
-    | inl same ↦ absurd (other (same_fact h.name x same).1)
-    | inr old ↦ record { name = h.name; named = h.named; there = old }
-  ]
-  held_before x (basic.Exists r) other (y, h) = (y, record { name = h.name; named = h.named; there = role_before h.name r.inverse x y h.there })
-
-  module _ (place : ℕ) (distinct : AllPairs (λ x y. x ≢ y) o.concepts) (at : slice_get o.concepts place ≡ Some name) where
-    -- what the individual holds with one more fact
-    held_now : (b : Basic) → Held o (asserted ++ fact_of name a ∷ []) a b ↔ ((b ≡ basic.Concept place) ⊎ Held o asserted a b)
-    held_now (basic.Concept c) = (
-      λ h. elim (contains_cut asserted (fact_of name a) (row.Concept h.name a) h.there) [
-        | inl same ↦ inl (ap basic.Concept (one_place o.concepts name c place distinct (h.named ∙ ap Some (same_fact h.name a same).0) at))
-        | inr old ↦ inr (record { name = h.name; named = h.named; there = old })
-      ],
-      λ either. elim either [
-        | inl same ↦ subst (λ (b : Basic). Held o (asserted ++ fact_of name a ∷ []) a b) (sym same) (record { name = name; named = at; there = Contains-push asserted (fact_of name a) })
-        | inr h ↦ record { name = h.name; named = h.named; there = before (row.Concept h.name a) h.there }
-      ],
-    )
-    held_now (basic.Exists r) = (
-      λ h. inr (h.0, record { name = h.1.name; named = h.1.named; there = role_before h.1.name r.inverse a h.0 h.1.there }),
-      λ either. elim either [ inl same ↦ absurd cc | inr h ↦ (h.0, record { name = h.1.name; named = h.1.named; there = before (row_of h.1.name r.inverse a h.0) h.1.there }) ],
-    )
-
-    pub kept_more : (new : Facts) (set set' : List ℕ) → IsSetOf (get name_cmp facts.held a) set → (HasBasic set (basic.Concept place) → ⊥)
-        → ((b : Basic) → HasBasic set' b ↔ ((b ≡ basic.Concept place) ⊎ HasBasic set b)) → Updates name_cmp facts.held new.held a (Some set') → IsOrdered name_cmp new.held
-        → btree_map_len new.held ≡ btree_map_len facts.held + (if is_some (get name_cmp facts.held a) then 0 else 1) → new.rows ≡ min (facts.rows + 1) (2 ^ 32 - 1)
-        → (TooManyFacts (asserted ++ fact_of name a ∷ []) → ⊥) → KeepsFacts o (asserted ++ fact_of name a ∷ []) new
-    kept_more new set set' is none adds updates rises count counted fits = record {
-      rows = placed row_cmp row_total row_same (fact_of name a) k.rows;
-      are = rows_now;
-      count = omega (arith, one_longer fresh, k.count, room, counted);
-      few_rows = omega (arith, one_longer fresh, k.count, room);
-      few = few (is_some (get name_cmp facts.held a)) refl;
-      ordered = rises;
-      named = named;
-      held = held;
-      known = λ n x c. elim (contains_cut asserted (fact_of name a) (row.Concept n x) c) [
-        | inl same ↦ subst (Contains o.concepts) (sym (same_fact n x same).0) (got_there o.concepts place name at)
-        | inr old ↦ k.known n x old
+  module _ (r : NamedRow) (more : List (List ℕ)) (n : Row) (keys' : List Row) where
+    pub tracks_more : more ≡ with_names names (names_in r) → AllPairs (λ x y. x ≢ y) more → NumbersRow o more r n → Adds n keys keys' → Tracks o (asserted ++ r ∷ []) more keys'
+    tracks_more is distinct number adds = record {
+      distinct = distinct;
+      individual = λ a. (individual_now a, individual_there a);
+      each = λ s c. elim (contains_cut asserted r s c) [
+        | inl e ↦ (n, adds.there, subst (λ (x : NamedRow). NumbersRow o more x n) (sym e) number)
+        | inr d ↦ let found = t.each s d in (found.0, adds.stays found.0 found.1, number_stays o names more s found.0 keep found.2)
       ];
-      no_roles = λ p x y c. elim (contains_cut asserted (fact_of name a) (row.Role p x y) c) [ inl same ↦ no_role_fact p x y same | inr old ↦ k.no_roles p x y old ];
+      only = λ m c. elim (adds.each m c) [
+        | inl e ↦ (r, Contains-push asserted r, subst (NumbersRow o more r) (sym e) number)
+        | inr d ↦ let found = t.only m d in (found.0, Contains-append_left asserted (r ∷ []) found.0 found.1, number_stays o names more found.0 m keep found.2)
+      ];
     }
       where
-        fresh : Contains asserted (fact_of name a) → ⊥
-        fresh there = none ((has_fact set place is at).1 there)
+        keep : (k : ℕ) (x : List ℕ) → slice_get names k ≡ Some x → slice_get more k ≡ Some x
+        keep k x at = subst (λ (xs : List (List ℕ)). slice_get xs k ≡ Some x) (sym is) (names_keep_place names (names_in r) k x at)
 
-        room : facts.rows < 1000000
-        room = elim (cases_order facts.rows 1000000) [
-          | inl same ↦ absurd (fits (row_passes fresh (omega arith)))
-          | inr either ↦ elim either [ inl below ↦ below | inr above ↦ absurd (fits (row_passes fresh (omega arith))) ]
+        individual_now : (a : List ℕ) → Contains more a → IsIndividual (asserted ++ r ∷ []) a
+        individual_now a c = elim (names_cases names r a (subst (λ (xs : List (List ℕ)). Contains xs a) is c)) [
+          | inl of_row ↦ (r, Contains-push asserted r, of_row)
+          | inr old ↦ individual_through asserted (asserted ++ r ∷ []) (λ s d. Contains-append_left asserted (r ∷ []) s d) a ((t.individual a).0 old)
         ]
 
-        few : (t : Bool) → is_some (get name_cmp facts.held a) ≡ t → btree_map_len new.held ≤ 65536
-        few true known = let e : btree_map_len new.held ≡ btree_map_len facts.held + 0 = rw known at count in omega (arith, k.few)
-        few false absent =
-            let e : btree_map_len new.held ≡ btree_map_len facts.held + 1 = rw absent at count in
-            elim (cases_order (btree_map_len facts.held) 65536) [
-              | inl same ↦ absurd (fits (individual_passes absent (omega arith)))
-              | inr either ↦ elim either [ inl below ↦ omega arith | inr above ↦ absurd (fits (individual_passes absent (omega arith))) ]
-            ]
+        there : (a : List ℕ) → Names a r ⊎ Contains names a → Contains more a
+        there a (inl of_row) = subst (λ (xs : List (List ℕ)). Contains xs a) (sym is) (names_new names r a of_row)
+        there a (inr old) = subst (λ (xs : List (List ℕ)). Contains xs a) (sym is) (names_old names r a old)
 
-        now_at : (x : List ℕ) → is_at (name_cmp a) x ≡ true → get name_cmp new.held x ≡ Some set'
-        now_at x here = let e = updates.0 x in let f : get name_cmp new.held x ≡ cond true (Some set') (get name_cmp facts.held x) = rw here at e in f
+        individual_there : (a : List ℕ) → IsIndividual (asserted ++ r ∷ []) a → Contains more a
+        individual_there a (s, c, of_row) = elim (contains_cut asserted r s c) [
+          | inl e ↦ there a (inl (subst (Names a) e of_row))
+          | inr d ↦ there a (inr ((t.individual a).1 (s, d, of_row)))
+        ]
 
-        stays_at : (x : List ℕ) → is_at (name_cmp a) x ≡ false → get name_cmp new.held x ≡ get name_cmp facts.held x
-        stays_at x other = updates.2 x other
+-- ---- what the draft needs
 
-        named : (x : List ℕ) → IsSome (get name_cmp new.held x) ↔ IsIndividual (asserted ++ fact_of name a ∷ []) x
-        named x = by (is_at (name_cmp a) x) refl
-          where
-            by : (t : Bool) → is_at (name_cmp a) x ≡ t → IsSome (get name_cmp new.held x) ↔ IsIndividual (asserted ++ fact_of name a ∷ []) x
-            by true here = (
-              λ _. subst (IsIndividual (asserted ++ fact_of name a ∷ [])) (at_same a x here) individual_now,
-              λ _. ap is_some (now_at x here),
-            )
-            by false other = (
-              λ some. individual_stays x ((k.named x).0 (ap is_some (sym (stays_at x other)) ∙ some)),
-              λ i. elim (individual_more x i) [
-                | inl same ↦ absurd (at_other a x other same)
-                | inr old ↦ ap is_some (stays_at x other) ∙ (k.named x).1 old
-              ],
-            )
+-- facts that are kept pass no limit
+pub facts_fit : (o : Terminology) (asserted : List NamedRow) (facts : Facts) → KeepsFacts o asserted facts → TooManyFacts asserted → ⊥
+facts_fit o asserted facts k = not_too_many o asserted facts.individuals facts.rows.keys (tracks o asserted facts k) k.few_rows k.few_individuals
 
-        held : (x found : List ℕ) → get name_cmp new.held x ≡ Some found → (b : Basic) → HasBasic found b ↔ Held o (asserted ++ fact_of name a ∷ []) x b
-        held x found there b = by (is_at (name_cmp a) x) refl
-          where
-            by : (t : Bool) → is_at (name_cmp a) x ≡ t → HasBasic found b ↔ Held o (asserted ++ fact_of name a ∷ []) x b
-            by true here =
-                let same : found ≡ set' = some_same _ _ (sym there ∙ now_at x here) in
-                let one : a ≡ x = at_same a x here in
-                subst (λ (y : List ℕ). HasBasic found b ↔ Held o (asserted ++ fact_of name a ∷ []) y b) one (
-                  λ has. (held_now b).1 (elim ((adds b).0 (subst (λ (s : List ℕ). HasBasic s b) same has)) [ inl e ↦ inl e | inr old ↦ inr ((set_has set b is).0 old) ]),
-                  λ h. subst (λ (s : List ℕ). HasBasic s b) (sym same) ((adds b).1 (elim ((held_now b).0 h) [ inl e ↦ inl e | inr old ↦ inr ((set_has set b is).1 old) ])),
-                )
-            by false other =
-                let old = k.held x found (sym (stays_at x other) ∙ there) b in
-                (λ has. held_through o asserted (asserted ++ fact_of name a ∷ []) before x b (old.0 has), λ h. old.1 (held_before x b (at_other a x other) h))
+-- facts within the limits are kept
+pub facts_kept : (o : Terminology) (asserted : List NamedRow) (facts : Facts) → Tracks o asserted facts.individuals facts.rows.keys
+    → length facts.rows.keys ≤ 1000000 → length facts.individuals ≤ 65536 → KeepsFacts o asserted facts
+facts_kept o asserted facts t rows individuals = record { distinct = t.distinct; individual = t.individual; each = t.each; only = t.only; few_individuals = individuals; few_rows = rows }
+
+-- what the limits tell
+pub kept_or_too_many : (o : Terminology) (asserted : List NamedRow) (facts : Facts) (fits : Bool) → IsTerminology o → Tracks o asserted facts.individuals facts.rows.keys
+    → AllPairs (λ x y. x ≢ y) facts.rows.keys → IsTrue fits ↔ ((length facts.rows.keys ≤ 1000000) × (length facts.individuals ≤ 65536))
+    → MatchBool fits (KeepsFacts o asserted facts) (TooManyFacts asserted)
+kept_or_too_many o asserted facts true is t distinct within = facts_kept o asserted facts t (within.0 refl).0 (within.0 refl).1
+kept_or_too_many o asserted facts false is t distinct within =
+    past_a_limit o asserted facts.individuals facts.rows.keys t is distinct (λ both. absurd (let e : false ≡ true = within.1 both in cc))
+
+nobody : {X : Type 0} (xs : List X) (x : X) → xs ≡ [] → Contains xs x → ⊥
+nobody {X} xs x e c = let d : Contains [] x = subst (λ (ys : List X). Contains ys x) e c in absurd (omega (arith, d.1))
+
+-- no facts
+pub facts_none : (o : Terminology) (facts : Facts) → facts.individuals ≡ [] → IsEmpty facts.rows → KeepsFacts o [] facts
+facts_none o facts no_names no_rows = record {
+  distinct = λ i j d lt below. absurd (let e : length facts.individuals ≡ 0 = ap length no_names in omega arith);
+  individual = λ a. (λ c. absurd (nobody facts.individuals a no_names c), λ i. absurd (nobody [] i.0 refl i.1));
+  each = λ r c. absurd (nobody [] r refl c);
+  only = λ n c. absurd (nobody facts.rows.keys n no_rows c);
+  few_individuals = let e : length facts.individuals ≡ 0 = ap length no_names in omega arith;
+  few_rows = let e : length facts.rows.keys ≡ 0 = ap length no_rows in omega arith;
+}
+
+-- where no row is kept, none is asserted
+pub no_facts : (o : Terminology) (asserted : List NamedRow) (facts : Facts) → KeepsFacts o asserted facts → btree_set_len facts.rows ≡ 0 → asserted ≡ []
+no_facts o [] facts k none = refl
+no_facts o (r ∷ asserted) facts k none = let found = k.each r (contains_first r asserted) in absurd (omega (arith, found.1.1))
+
+-- and where some row is kept, some is asserted
+pub some_facts : (o : Terminology) (asserted : List NamedRow) (facts : Facts) → KeepsFacts o asserted facts → btree_set_len facts.rows ≢ 0 → asserted ≢ []
+some_facts o asserted facts k some none = by facts.rows.keys refl
+  where
+    by : (keys : List Row) → facts.rows.keys ≡ keys → ⊥
+    by [] e = some (ap length e)
+    by (n ∷ ns) e = let found = k.only n (subst (λ (ks : List Row). Contains ks n) (sym e) (contains_first n ns)) in nobody asserted found.0 none found.1
+
+-- no facts are kept whatever the ontology is
+pub facts_of_none : (o new : Terminology) (asserted : List NamedRow) (facts : Facts) → asserted ≡ [] → KeepsFacts o asserted facts → KeepsFacts new asserted facts
+facts_of_none o new asserted facts none k = record {
+  distinct = k.distinct;
+  individual = k.individual;
+  each = λ r c. absurd (nobody asserted r none c);
+  only = λ n c. let found = k.only n c in absurd (nobody asserted found.0 none found.1);
+  few_individuals = k.few_individuals;
+  few_rows = k.few_rows;
+}
+
+row_within : (o : Terminology) (names : List (List ℕ)) (r : NamedRow) (n : Row) → (length o.concepts ≤ 512) × (length o.roles ≤ 256) → NumbersRow o names r n → IsRowWithin 512 256 (length names) n
+row_within o names (named.Concept c a) (row.Concept k n) is e =
+    let of_concept = slice_get_within o.concepts k c e.0 in
+    (omega (arith, of_concept, is.0), slice_get_within names n a e.1)
+row_within o names (named.Role p a b) (row.Role k n m) is e =
+    let of_role = slice_get_within o.roles k p e.0 in
+    (omega (arith, of_role, is.1), slice_get_within names n a e.1, slice_get_within names m b e.2)
+row_within o names (named.Concept c a) (row.Role k n m) is e = absurd e
+row_within o names (named.Role p a b) (row.Concept k n) is e = absurd e
+
+-- the numbers of the rows are those of names
+pub rows_within : (o : Terminology) (asserted : List NamedRow) (facts : Facts) → KeepsFacts o asserted facts → (length o.concepts ≤ 512) × (length o.roles ≤ 256) → All (IsRowWithin 512 256 (length facts.individuals)) facts.rows.keys
+rows_within o asserted facts k is = λ i d below.
+    let n : Row = get_or facts.rows.keys i d in
+    let found = k.only (get_or facts.rows.keys i d) (member_at facts.rows.keys i (get_or facts.rows.keys i d) (slice_get-get_or facts.rows.keys i d below)) in
+    row_within o facts.individuals found.0 (get_or facts.rows.keys i d) is found.2

@@ -1,10 +1,13 @@
 pub mod LineLemmas
-pub mod FormRules
-pub mod FactLemmas
+pub mod ReasonLemmas
 pub mod OntologyLemmas
+pub mod QueryLemmas
+pub mod FactLemmas
 pub mod DraftLemmas
 pub mod LineTaking
-pub mod AnswerLemmas
-pub mod InputLemmas
+pub mod SoundLemmas
 pub mod DocumentLemmas
+pub mod InputLemmas
 pub mod CommandLemmas
+pub mod CompletedLemmas
+pub mod AnswerLemmas

@@ -1,192 +1,332 @@
 -- Laws of a draft that takes a line, by what the line says.
-use Rattle.std.proofs.Common.{◌≡◌, ℕ, ◌^◌, ◌<◌, ◌≤◌, ◌⊎◌, inl, inr, List, [], ◌∷◌, ◌++◌, length, Contains, get_or, slice_get, Option, Some, None, Bool, true, false, refl, sym, ◌∙◌, subst, arith}
-use Rattle.std.specs.Prelude.{IsSome, is_some, MatchOption, IfOk, Result, Ok, Err}
-use Rattle.std.proofs.lemmas.Option.{slice_get-get_or, slice_get_within}
-use Rattle.std.proofs.lemmas.Bool.{cases_order}
+use Rattle.std.proofs.Common.{◌≡◌, ℕ, ◌^◌, ◌<◌, ◌≤◌, inl, inr, List, [], ◌∷◌, ◌++◌, length, All, Contains, Option, Some, None, Bool, true, false, refl, sym, ◌∙◌, ap, subst}
+use Rattle.std.specs.Prelude.{IsSome, is_some, Err, MatchBool}
+use Rattle.std.specs.BTreeSet.{btree_set_len}
+use Rattle.std.specs.Option.{ForSome}
 use Rattle.host_io.specs.Causes.{raised}
-use Rattle.dl_base.specs.Ontology.{Terminology, IsTerminology}
-use Rattle.dl_base.specs.Axiom.{Statement, Passes, PassesNoneBefore, IsExtended, Extends}
+use Rattle.dl_base.specs.Ontology.{Terminology}
+use Rattle.dl_base.specs.Axiom.{Statement, Passes, IsExtended, Extends}
+use Rattle.dl_base.specs.Query.{Question, IsQuery}
 use Rattle.dl_base.specs.declared.ontology.ExtendError.{ExtendError}
 use Rattle.dl_base.specs.declared.ontology.ExtendError.TheVariants as errors
-use Rattle.dl_base.specs.Query.{Question}
 use Rattle.dl_base.specs.declared.ontology.Which.{Which}
 use Rattle.dl_base.specs.declared.row.NamedRow.{NamedRow}
+use Rattle.dl_base.specs.declared.row.NamedRow.TheVariants as row
+use Rattle.cq_reader.specs.QueryLimits.{IsTooLarge, IsFirstUnbound}
+use Rattle.cq_reader.proofs.TermCounts.{small_not_too_large}
+use Rattle.query_shape.specs.ShapeFault.{IsKnown, IsFirstFault}
+use Rattle.query_shape.specs.declared.numbering.ShapeError.TheVariants as shape_errors
+use Rattle.script_reader.specs.DocLines.{IsDocLine, IsFaultOf}
+use Rattle.script_reader.specs.declared.doc_line.CommandError.{CommandError}
+use Rattle.script_reader.specs.declared.doc_line.CommandError.TheVariants as commands
+use Rattle.script_reader.specs.declared.doc_line.DocLine.{DocLine}
+use Rattle.script_reader.specs.declared.doc_line.DocLine.TheVariants as line
 use Rattle.obda_run.specs.Lines.{line_of}
 use Rattle.obda_run.specs.Feeding.{StandsFor}
-use Rattle.obda_run.specs.Forms.{IsDocLine}
-use Rattle.obda_run.specs.Facts.{KeepsFacts, IsFound}
-use Rattle.obda_run.specs.Document.{Context, nothing_said, sub_class, fact_of, concept_names, TooManyFacts, IsOutOfOrder, FirstOffence, who_is_in}
-use Rattle.obda_run.specs.Drafting.{KeepsOntology, KeepsPartial, NextLine}
+use Rattle.obda_run.specs.Facts.{IsPlaceOf, KeepsFacts}
+use Rattle.obda_run.specs.declared.document.Draft.TheVariants as drafts
+use Rattle.obda_run.specs.Document.{Context, nothing_said, with_line, IsOutOfOrder, HasNewHead, AsksTooMuch, IsUnsafe, TooManyFacts, FirstOffence, rank_of}
+use Rattle.obda_run.specs.Drafting.{KeepsOntology, KeepsPartial, NextText, IsAskable, IsAskFault, LacksName, unknown_of}
 use Rattle.obda_run.specs.declared.facts.Facts.{Facts}
-use Rattle.obda_run.specs.declared.forms.DocLine.{DocLine}
-use Rattle.obda_run.specs.declared.forms.DocLine.TheVariants as line
-use Rattle.obda_run.specs.declared.document.Reason.TheVariants as reason
+use Rattle.obda_run.specs.declared.reason.Reason.{Reason}
+use Rattle.obda_run.specs.declared.reason.Reason.TheVariants as reason
 use Rattle.obda_run.specs.declared.document.Partial.{Partial}
-use Rattle.obda_run.proofs.DraftLemmas.{offends_unbuilt, offence_now, refused_limit, refused_order, refused_unknown, kept_more, asked_too, not_asked, still_none, is_none}
-use Rattle.obda_run.proofs.OntologyLemmas.{ontology_more, axioms_fit, axioms_pass, no_facts, some_facts, facts_of_none}
-
-pub not_both : {b : Bool} → b ≡ false → b ≡ true → ⊥
-not_both off on = cc
+use Rattle.obda_run.proofs.ReasonLemmas.{NoneBelow, HoldsFor, none_misplaced, none_not_built, none_limit, none_large, none_unsafe, none_concept, none_role, none_facts, none_holds}
+use Rattle.obda_run.proofs.OntologyLemmas.{ontology_more, ontology_same, axioms_fit, axioms_pass}
+use Rattle.obda_run.proofs.FactLemmas.{no_facts, some_facts, facts_of_none, facts_fit}
+use Rattle.obda_run.proofs.QueryLemmas.{not_large, not_unsafe, none_unknown, unknown_concept, unknown_role, not_both_first, got_there}
+use Rattle.obda_run.proofs.DraftLemmas.{refused_long, refused_by, kept_more}
+use Rattle.dl_base.specs.declared.query.Atom.TheVariants as atom
 
 -- ---- no lines
 
 pub kept_none : (o : Terminology) (facts : Facts) → KeepsOntology nothing_said o → KeepsFacts o [] facts
     → KeepsPartial [] (record { ontology = o; facts = facts; asked = None; lines = 0 })
-kept_none o facts ontology are = record { said = nothing_said; accepted = refl; ontology = ontology; facts = are; asked = tt; number = refl }
+kept_none o facts ontology are = record { said = nothing_said; accepted = refl; ontology = ontology; facts = are; asked = refl; askable = λ q some. absurd cc; number = refl }
 
--- ---- a line that says nothing
+-- ---- what is kept of a line
 
--- what a line says, by what its text says
-pub told : {E : Type 0} (bytes text : List ℕ) (r : Result (Option DocLine) E) → (text ≡ line_of bytes) × (length text ≤ 4096)
-    → IfOk r (λ l. MatchOption l ((d : DocLine) → IsDocLine text d → ⊥) (IsDocLine text))
-    → IfOk r (λ l. MatchOption l (length (line_of bytes) ≤ 4096 → (d : DocLine) → IsDocLine (line_of bytes) d → ⊥)
-    (λ d. (length (line_of bytes) ≤ 4096) × IsDocLine (line_of bytes) d))
-told bytes text (Ok None) (same, short) none = λ _. subst (λ (t : List ℕ). (d : DocLine) → IsDocLine t d → ⊥) same none
-told bytes text (Ok (Some d)) (same, short) says = (subst (λ (t : List ℕ). length t ≤ 4096) same short, subst (λ (t : List ℕ). IsDocLine t d) same says)
-told bytes text (Err e) is says = tt
+-- what is kept of a line that is too long is too long
+pub long_line : (lines : List (List ℕ)) (text bytes : List ℕ) (p : Partial) → length lines < 2 ^ 63 → StandsFor bytes text → KeepsPartial lines p → 4096 < length (line_of bytes)
+    → FirstOffence (lines ++ text ∷ []) (raised p.lines) reason.TooLong
+long_line lines text bytes p few stands k long = refused_long lines text p k few (stands.long long)
 
--- where what is kept of a line is too long, or says nothing, so is the line
-pub nothing_told : (lines : List (List ℕ)) (text bytes : List ℕ) (p : Partial) → length lines < 2 ^ 63 → StandsFor bytes text → KeepsPartial lines p
-    → (length (line_of bytes) ≤ 4096 → (d : DocLine) → IsDocLine (line_of bytes) d → ⊥) → FirstOffence (lines ++ text ∷ []) (raised p.lines) reason.NotBuilt
-nothing_told lines text bytes p few stands k none = elim (cases_order (length (line_of bytes)) 4096) [
-  | inl same ↦ short (omega arith)
-  | inr either ↦ elim either [ inl below ↦ short (omega arith) | inr above ↦ unbuilt (inl (stands.long above)) ]
-]
+pub next_text : (lines : List (List ℕ)) (text bytes kept : List ℕ) (p : Partial) → length lines < 2 ^ 63 → StandsFor bytes text → KeepsPartial lines p → kept ≡ line_of bytes → length kept ≤ 4096
+    → (text ≡ kept) × NextText lines kept p
+next_text lines text bytes kept p few stands k is short = (
+  sym (stands.short (subst (λ (t : List ℕ). length t ≤ 4096) is short)) ∙ sym is,
+  record { few = few; short = short; keeps = k },
+)
+
+-- ---- the query so far
+
+asked_too : (asked query : Option Question) → asked ≡ query → is_some asked ≡ true → IsSome query
+asked_too asked query same some = subst (λ (q : Option Question). IsSome q) same some
+
+not_asked : (asked query : Option Question) → asked ≡ query → is_some asked ≡ false → IsSome query → ⊥
+not_asked asked query same none some = let there : IsSome asked = subst (λ (q : Option Question). IsSome q) (sym same) some in cc
+
+pub is_none : (asked : Option Question) → is_some asked ≡ false → asked ≡ None
+is_none None none = refl
+is_none (Some q) none = absurd cc
+
+for_none : (P : Question → Type 0) (asked : Option Question) → asked ≡ None → ForSome asked P
+for_none P asked none = λ q some. let e : None ≡ Some q = sym none ∙ some in absurd cc
+
+for_this : (P : Question → Type 0) (q : Question) → P q → ForSome (Some q) P
+for_this P q holds = λ r same. let e : q ≡ r = same_some q r same in subst P e holds
   where
-    unbuilt : (4096 < length text) ⊎ ((d : DocLine) → IsDocLine text d → ⊥) → FirstOffence (lines ++ text ∷ []) (raised p.lines) reason.NotBuilt
-    unbuilt either = offence_now lines text p k reason.NotBuilt few (offends_unbuilt k.said text either)
+    same_some : (x y : Question) → Some x ≡ Some y → x ≡ y
+    same_some x y e = cc
 
-    short : length (line_of bytes) ≤ 4096 → FirstOffence (lines ++ text ∷ []) (raised p.lines) reason.NotBuilt
-    short within = unbuilt (inr (subst (λ (t : List ℕ). (d : DocLine) → IsDocLine t d → ⊥) (stands.short within) (none within)))
+-- ---- a fact by its form
 
--- a line is what is kept of it, where that is not too long
-pub next_told : (lines : List (List ℕ)) (text bytes : List ℕ) (p : Partial) (d : DocLine) → length lines < 2 ^ 63 → StandsFor bytes text → KeepsPartial lines p
-    → (length (line_of bytes) ≤ 4096) × IsDocLine (line_of bytes) d → NextLine lines text d p
-next_told lines text bytes p d few stands k (short, says) =
-    let same : line_of bytes ≡ text = stands.short short in
-    record { few = few; short = subst (λ (t : List ℕ). length t ≤ 4096) same short; says = subst (λ (t : List ℕ). IsDocLine t d) same says; keeps = k }
+-- the ontology's names are those of the axioms
+module _ (said : Context) (o : Terminology) (k : KeepsOntology said o) where
+  lacks_there : (r : NamedRow) → LacksName o r → HoldsFor said (line.Fact r) (unknown_of r)
+  lacks_there (row.Concept c a) lacks = λ there. lacks (subst (λ (names : List (List ℕ)). Contains names c) (sym k.concepts) there)
+  lacks_there (row.Role r a b) lacks = λ there. lacks (subst (λ (names : List (List ℕ)). Contains names r) (sym k.roles) there)
 
--- what is kept of the ontology says nothing of the facts and the query
-ontology_same : (said : Context) (facts : List NamedRow) (query : Option Question) (o : Terminology) → KeepsOntology said o
-    → KeepsOntology (record { axioms = said.axioms; facts = facts; query = query }) o
-ontology_same said facts query o k = record { makes = k.makes; names = k.names; count = k.count; no_roles = k.no_roles; plain = k.plain }
+  named_concept : (r : NamedRow) → (LacksName o r → ⊥) → HoldsFor said (line.Fact r) reason.UnknownConcept → ⊥
+  named_concept (row.Concept c a) named unknown = named (λ there. unknown (subst (λ (names : List (List ℕ)). Contains names c) k.concepts there))
+  named_concept (row.Role r a b) named unknown = unknown
 
--- a name is found by its bytes
-pub found_is : (book names : List (List ℕ)) (bytes name : List ℕ) (place : Option ℕ) → book ≡ names → bytes ≡ name
-    → MatchOption place (Contains book bytes → ⊥) (λ id. slice_get book id ≡ Some bytes) → IsFound names name place
-found_is book names bytes name None same is none = λ there. none (subst (λ (b : List ℕ). Contains book b) (sym is) (subst (λ (ns : List (List ℕ)). Contains ns name) (sym same) there))
-found_is book names bytes name (Some place) same is at =
-    subst (λ (ns : List (List ℕ)). slice_get ns place ≡ Some name) same (subst (λ (b : List ℕ). slice_get book place ≡ Some b) is at)
+  named_role : (r : NamedRow) → (LacksName o r → ⊥) → HoldsFor said (line.Fact r) reason.UnknownRole → ⊥
+  named_role (row.Concept c a) named unknown = unknown
+  named_role (row.Role r a b) named unknown = named (λ there. unknown (subst (λ (names : List (List ℕ)). Contains names r) k.roles there))
 
-pub found_at : (o : Terminology) (concept : List ℕ) (found : Option ℕ) (place : ℕ) → IsFound o.concepts concept found → found ≡ Some place → slice_get o.concepts place ≡ Some concept
-found_at o concept found place is some = subst (λ (f : Option ℕ). IsFound o.concepts concept f) some is
+none_unknown_before : (said : Context) (r : NamedRow) → (IsOutOfOrder said (line.Fact r) → ⊥) → NoneBelow (HoldsFor said (line.Fact r)) (rank_of (unknown_of r))
+none_unknown_before said (row.Concept c a) ordered = none_concept said (line.Fact (row.Concept c a)) ordered (λ no'. no') (λ no'. no') (λ no'. no') (λ no'. no')
+none_unknown_before said (row.Role r a b) ordered = none_role said (line.Fact (row.Role r a b)) ordered (λ no'. no') (λ no'. no') (λ no'. no') (λ no'. no') (λ no'. no')
 
-place_there : (xs : List (List ℕ)) (i : ℕ) (x : List ℕ) → slice_get xs i ≡ Some x → Contains xs x
-place_there xs i x is =
-    let within : i < length xs = slice_get_within xs i x is in
-    let same : Some (get_or xs i x) ≡ Some x = sym (slice_get-get_or xs i x within) ∙ is in
-    (i, within, cc)
+module _ (lines : List (List ℕ)) (text : List ℕ) (r : NamedRow) (p : Partial) (next : NextText lines text p) (says : IsDocLine text (line.Fact r)) (ordered : IsOutOfOrder next.keeps.said (line.Fact r) → ⊥) where
+  lacking : LacksName p.ontology r → FirstOffence (lines ++ text ∷ []) (raised p.lines) (unknown_of r)
+  lacking lacks = refused_by lines text (line.Fact r) p next says (unknown_of r) (lacks_there next.keeps.said p.ontology next.keeps.ontology r lacks) (none_unknown_before next.keeps.said r ordered)
 
-module _ (said : Context) (o : Terminology) (k : KeepsOntology said o) (concept : List ℕ) where
-  not_found : (found : Option ℕ) → IsFound o.concepts concept found → found ≡ None → Contains (concept_names said.axioms) concept → ⊥
-  not_found found is none there = subst (λ (f : Option ℕ). IsFound o.concepts concept f) none is (subst (λ (ns : List (List ℕ)). Contains ns concept) (sym k.names) there)
+  module _ (named : LacksName p.ontology r → ⊥) where
+    passing : TooManyFacts (next.keeps.said.facts ++ r ∷ []) → FirstOffence (lines ++ text ∷ []) (raised p.lines) reason.TooManyFacts
+    passing many = refused_by lines text (line.Fact r) p next says reason.TooManyFacts many
+        (none_facts next.keeps.said (line.Fact r) ordered (λ no'. no') (λ no'. no') (λ no'. no') (λ no'. no')
+        (named_concept next.keeps.said p.ontology next.keeps.ontology r named) (named_role next.keeps.said p.ontology next.keeps.ontology r named))
 
-  named_at : (place : ℕ) → slice_get o.concepts place ≡ Some concept → Contains (concept_names said.axioms) concept
-  named_at place at = subst (λ (ns : List (List ℕ)). Contains ns concept) k.names (place_there o.concepts place concept at)
+    adding : (new : Facts) → KeepsFacts p.ontology (next.keeps.said.facts ++ r ∷ []) new
+        → KeepsPartial (lines ++ text ∷ []) (record { ontology = p.ontology; facts = new; asked = p.asked; lines = raised p.lines })
+    adding new facts = kept_more lines text (line.Fact r) p next says
+        (none_holds next.keeps.said (line.Fact r) ordered (λ no'. no') (λ no'. no') (λ no'. no') (λ no'. no')
+        (named_concept next.keeps.said p.ontology next.keeps.ontology r named) (named_role next.keeps.said p.ontology next.keeps.ontology r named)
+        (facts_fit p.ontology (next.keeps.said.facts ++ r ∷ []) new facts))
+        _ refl
+        (ontology_same next.keeps.said (with_line next.keeps.said (line.Fact r)) p.ontology refl next.keeps.ontology)
+        facts next.keeps.asked next.keeps.askable
 
--- a place in the book of an ontology
-pub placed_below : (o : Terminology) → IsTerminology o → (place : ℕ) (name : List ℕ) → slice_get o.concepts place ≡ Some name → place < 512
-placed_below o terminology place name at = let within : place < length o.concepts = slice_get_within o.concepts place name at in omega (arith, terminology.concepts)
+module _ (lines : List (List ℕ)) (text : List ℕ) (p : Partial) (next : NextText lines text p) where
+  said : Context
+  said = next.keeps.said
 
--- ---- nothing but a blank line
+  -- ---- nothing but a blank line
 
-pub blank_more : (lines : List (List ℕ)) (text : List ℕ) (p : Partial) → NextLine lines text line.Blank p
-    → KeepsPartial (lines ++ text ∷ []) (record { ontology = p.ontology; facts = p.facts; asked = p.asked; lines = raised p.lines })
-blank_more lines text p next = kept_more lines text line.Blank p next (λ no. no) (λ no. no) (λ no. no) _ refl next.keeps.ontology next.keeps.facts next.keeps.asked
+  pub blank_more : IsDocLine text line.Blank → KeepsPartial (lines ++ text ∷ []) (record { ontology = p.ontology; facts = p.facts; asked = p.asked; lines = raised p.lines })
+  unfolding said
+  blank_more says = kept_more lines text line.Blank p next says
+      (none_holds said line.Blank (λ no'. no') (λ no'. no') (λ no'. no') (λ no'. no') (λ no'. no') (λ no'. no') (λ no'. no') (λ no'. no'))
+      _ refl next.keeps.ontology next.keeps.facts next.keeps.asked next.keeps.askable
 
--- ---- one more axiom
+  -- ---- one more axiom
 
--- the limit that an error names
-pub passes_as : (o : Terminology) (a b : Statement) (e : ExtendError) (w : Which) → a ≡ b → e ≡ errors.TooMany w → Extends o a (Err e) → Passes o b w
-passes_as o a b e w same is extends =
-    let both : Passes o a w × PassesNoneBefore o a w = subst (λ (x : ExtendError). Extends o a (Err x)) is extends in
-    subst (λ (x : Statement). Passes o x w) same both.0
+  module _ (a : Statement) (says : IsDocLine text (line.Axiom a)) where
+    pub axiom_late : ((btree_set_len p.facts.rows ≡ 0) × (p.asked ≡ None) → ⊥) → FirstOffence (lines ++ text ∷ []) (raised p.lines) reason.Misplaced
+    unfolding said
+    axiom_late late = refused_by lines text (line.Axiom a) p next says reason.Misplaced (by (is_some p.asked) refl) (none_misplaced said (line.Axiom a))
+      where
+        by : (t : Bool) → is_some p.asked ≡ t → IsOutOfOrder next.keeps.said (line.Axiom a)
+        by true some = inr (asked_too p.asked next.keeps.said.query next.keeps.asked some)
+        by false none = inl (some_facts p.ontology next.keeps.said.facts p.facts next.keeps.facts (λ zero. late (zero, is_none p.asked none)))
 
-module _ (lines : List (List ℕ)) (text sub sup : List ℕ) (p : Partial) (next : NextLine lines text (line.SubClass sub sup) p) where
-  pub axiom_passes : (w : Which) → Passes p.ontology (sub_class sub sup) w → FirstOffence (lines ++ text ∷ []) (raised p.lines) reason.NotBuilt
-  axiom_passes w passes = refused_limit lines text (line.SubClass sub sup) p next (axioms_pass next.keeps.said p.ontology next.keeps.ontology sub sup w passes)
+    module _ (zero : btree_set_len p.facts.rows ≡ 0) (none : p.asked ≡ None) where
+      no_fact : next.keeps.said.facts ≡ []
+      no_fact = no_facts p.ontology next.keeps.said.facts p.facts next.keeps.facts zero
 
-  pub axiom_late : (new : Terminology) → IsExtended p.ontology (sub_class sub sup) new → ((p.facts.rows ≡ 0) × (p.asked ≡ None) → ⊥)
-      → FirstOffence (lines ++ text ∷ []) (raised p.lines) reason.OutOfOrder
-  axiom_late new extended late =
-      refused_order lines text (line.SubClass sub sup) p next (axioms_fit next.keeps.said p.ontology next.keeps.ontology sub sup new extended) (by (is_some p.asked) refl)
-    where
-      by : (t : Bool) → is_some p.asked ≡ t → IsOutOfOrder next.keeps.said (line.SubClass sub sup)
-      by true some = inr (asked_too p.ontology next.keeps.said.query p.asked next.keeps.asked some)
-      by false none = inl (some_facts p.ontology next.keeps.said.facts p.facts next.keeps.facts (λ zero. late (zero, is_none p.asked none)))
+      in_order : IsOutOfOrder next.keeps.said (line.Axiom a) → ⊥
+      in_order (inl some) = some no_fact
+      in_order (inr some) = not_asked p.asked next.keeps.said.query next.keeps.asked (ap (λ (q : Option Question). is_some q) none) some
 
-  pub axiom_more : (new : Terminology) → IsExtended p.ontology (sub_class sub sup) new → (p.facts.rows ≡ 0) × (p.asked ≡ None)
-      → KeepsPartial (lines ++ text ∷ []) (record { ontology = new; facts = p.facts; asked = p.asked; lines = raised p.lines })
-  axiom_more new extended (zero, none) =
-      let no : next.keeps.said.facts ≡ [] = no_facts p.ontology next.keeps.said.facts p.facts next.keeps.facts zero in
-      kept_more lines text (line.SubClass sub sup) p next
-      (axioms_fit next.keeps.said p.ontology next.keeps.ontology sub sup new extended)
-      (λ late. elim late [ inl some ↦ some no | inr some ↦ not_asked p.ontology next.keeps.said.query p.asked next.keeps.asked none some ])
-      (λ unknown. unknown)
-      _ refl
-      (ontology_more next.keeps.said p.ontology next.keeps.ontology sub sup new extended)
-      (facts_of_none p.ontology new next.keeps.said.facts p.facts no next.keeps.facts)
-      (still_none p.ontology new next.keeps.said.query p.asked next.keeps.asked none)
+      pub axiom_new : HasNewHead a → FirstOffence (lines ++ text ∷ []) (raised p.lines) reason.NotBuilt
+      unfolding said
+      axiom_new new = refused_by lines text (line.Axiom a) p next says reason.NotBuilt new (none_not_built said (line.Axiom a) in_order)
 
--- ---- one more fact
+      module _ (old : HasNewHead a → ⊥) where
+        pub axiom_passes : (w : Which) → Passes p.ontology a w → FirstOffence (lines ++ text ∷ []) (raised p.lines) reason.PassesLimit
+        unfolding said
+        axiom_passes w passes = refused_by lines text (line.Axiom a) p next says reason.PassesLimit (axioms_pass next.keeps.said p.ontology next.keeps.ontology a w passes)
+            (none_limit said (line.Axiom a) in_order old)
 
-module _ (lines : List (List ℕ)) (text concept individual : List ℕ) (p : Partial) (next : NextLine lines text (line.Fact concept individual) p) where
-  pub fact_passes : TooManyFacts (next.keeps.said.facts ++ fact_of concept individual ∷ []) → FirstOffence (lines ++ text ∷ []) (raised p.lines) reason.NotBuilt
-  fact_passes many = refused_limit lines text (line.Fact concept individual) p next many
+        pub axiom_more : (new : Terminology) → IsExtended p.ontology a new → KeepsPartial (lines ++ text ∷ []) (record { ontology = new; facts = p.facts; asked = p.asked; lines = raised p.lines })
+        unfolding said
+        axiom_more new extended = kept_more lines text (line.Axiom a) p next says
+            (none_holds said (line.Axiom a) in_order old (axioms_fit next.keeps.said p.ontology next.keeps.ontology a new extended) (λ no'. no') (λ no'. no') (λ no'. no') (λ no'. no') (λ no'. no'))
+            _ refl
+            (ontology_more next.keeps.said p.ontology next.keeps.ontology a new extended old)
+            (facts_of_none p.ontology new next.keeps.said.facts p.facts no_fact next.keeps.facts)
+            next.keeps.asked
+            (for_none (IsAskable new) p.asked none)
 
-  module _ (fits : TooManyFacts (next.keeps.said.facts ++ fact_of concept individual ∷ []) → ⊥) where
-    pub fact_late : is_some p.asked ≡ true → FirstOffence (lines ++ text ∷ []) (raised p.lines) reason.OutOfOrder
-    fact_late some = refused_order lines text (line.Fact concept individual) p next fits (asked_too p.ontology next.keeps.said.query p.asked next.keeps.asked some)
+  -- ---- one more fact
+
+  module _ (r : NamedRow) (says : IsDocLine text (line.Fact r)) where
+    pub fact_late : is_some p.asked ≡ true → FirstOffence (lines ++ text ∷ []) (raised p.lines) reason.Misplaced
+    unfolding said
+    fact_late some = refused_by lines text (line.Fact r) p next says reason.Misplaced (asked_too p.asked next.keeps.said.query next.keeps.asked some) (none_misplaced said (line.Fact r))
 
     module _ (none : is_some p.asked ≡ false) where
-      ordered : IsSome next.keeps.said.query → ⊥
-      ordered some = not_asked p.ontology next.keeps.said.query p.asked next.keeps.asked (is_none p.asked none) some
+      fact_order : IsOutOfOrder next.keeps.said (line.Fact r) → ⊥
+      fact_order some = not_asked p.asked next.keeps.said.query next.keeps.asked none some
 
-      pub fact_unknown : (found : Option ℕ) → IsFound p.ontology.concepts concept found → found ≡ None → FirstOffence (lines ++ text ∷ []) (raised p.lines) reason.UnknownConcept
-      fact_unknown found is absent =
-          refused_unknown lines text (line.Fact concept individual) p next fits ordered (not_found next.keeps.said p.ontology next.keeps.ontology concept found is absent)
+      -- no axiom names its concept or its role
+      pub fact_unknown : LacksName p.ontology r → FirstOffence (lines ++ text ∷ []) (raised p.lines) (unknown_of r)
+      fact_unknown lacks = lacking lines text r p next says fact_order lacks
 
-      pub fact_more : (place : ℕ) (new : Facts) → slice_get p.ontology.concepts place ≡ Some concept
-          → KeepsFacts p.ontology (next.keeps.said.facts ++ fact_of concept individual ∷ []) new
+      pub fact_passes : (LacksName p.ontology r → ⊥) → TooManyFacts (next.keeps.said.facts ++ r ∷ []) → FirstOffence (lines ++ text ∷ []) (raised p.lines) reason.TooManyFacts
+      fact_passes named many = passing lines text r p next says fact_order named many
+
+      pub fact_more : (LacksName p.ontology r → ⊥) → (new : Facts) → KeepsFacts p.ontology (next.keeps.said.facts ++ r ∷ []) new
           → KeepsPartial (lines ++ text ∷ []) (record { ontology = p.ontology; facts = new; asked = p.asked; lines = raised p.lines })
-      fact_more place new at facts =
-          kept_more lines text (line.Fact concept individual) p next fits ordered
-          (λ unknown. unknown (named_at next.keeps.said p.ontology next.keeps.ontology concept place at))
-          _ refl
-          (ontology_same next.keeps.said (next.keeps.said.facts ++ fact_of concept individual ∷ []) next.keeps.said.query p.ontology next.keeps.ontology)
-          facts
-          next.keeps.asked
+      fact_more named new facts = adding lines text r p next says fact_order named new facts
 
--- ---- the query
+  -- ---- the query
 
-module _ (lines : List (List ℕ)) (text variable concept : List ℕ) (p : Partial) (next : NextLine lines text (line.Ask variable concept) p) where
-  pub query_late : is_some p.asked ≡ true → FirstOffence (lines ++ text ∷ []) (raised p.lines) reason.OutOfOrder
-  query_late some = refused_order lines text (line.Ask variable concept) p next (λ no. no) (asked_too p.ontology next.keeps.said.query p.asked next.keeps.asked some)
+  -- a query that is refused whatever stands before it
+  pub ask_late : (d : DocLine) → IsDocLine text d → IsOutOfOrder next.keeps.said d → FirstOffence (lines ++ text ∷ []) (raised p.lines) reason.Misplaced
+  unfolding said
+  ask_late d says late = refused_by lines text d p next says reason.Misplaced late (none_misplaced said d)
 
-  module _ (none : is_some p.asked ≡ false) where
-    first_query : IsSome next.keeps.said.query → ⊥
-    first_query some = not_asked p.ontology next.keeps.said.query p.asked next.keeps.asked (is_none p.asked none) some
+  module _ (q : Question) (says : IsDocLine text (line.Ask q)) where
+    pub query_late : is_some p.asked ≡ true → FirstOffence (lines ++ text ∷ []) (raised p.lines) reason.Misplaced
+    query_late some = ask_late (line.Ask q) says (asked_too p.asked next.keeps.said.query next.keeps.asked some)
 
-    pub query_unknown : (found : Option ℕ) → IsFound p.ontology.concepts concept found → found ≡ None → FirstOffence (lines ++ text ∷ []) (raised p.lines) reason.UnknownConcept
-    query_unknown found is absent =
-        refused_unknown lines text (line.Ask variable concept) p next (λ no. no) first_query (not_found next.keeps.said p.ontology next.keeps.ontology concept found is absent)
+    module _ (none : is_some p.asked ≡ false) where
+      query_order : IsOutOfOrder next.keeps.said (line.Ask q) → ⊥
+      query_order some = not_asked p.asked next.keeps.said.query next.keeps.asked none some
 
-    pub query_more : (place : ℕ) → slice_get p.ontology.concepts place ≡ Some concept
-        → KeepsPartial (lines ++ text ∷ []) (record { ontology = p.ontology; facts = p.facts; asked = Some place; lines = raised p.lines })
-    query_more place at =
-        kept_more lines text (line.Ask variable concept) p next (λ no. no) first_query
-        (λ unknown. unknown (named_at next.keeps.said p.ontology next.keeps.ontology concept place at))
-        _ refl
-        (ontology_same next.keeps.said next.keeps.said.facts (Some (who_is_in concept variable)) p.ontology next.keeps.ontology)
-        next.keeps.facts
-        (concept, variable, refl, at)
+      pub query_large : IsTooLarge q → FirstOffence (lines ++ text ∷ []) (raised p.lines) reason.TooLarge
+      unfolding said
+      query_large large = refused_by lines text (line.Ask q) p next says reason.TooLarge large (none_large said (line.Ask q) query_order (λ no'. no') (λ no'. no'))
+
+      pub query_unsafe : (IsTooLarge q → ⊥) → (v : List ℕ) → IsFirstUnbound q v → FirstOffence (lines ++ text ∷ []) (raised p.lines) reason.Unsafe
+      unfolding said
+      query_unsafe small v first = refused_by lines text (line.Ask q) p next says reason.Unsafe (v, first) (none_unsafe said (line.Ask q) query_order (λ no'. no') (λ no'. no') small)
+
+      module _ (is : IsQuery q) where
+        no_unbound : IsUnsafe (line.Ask q) → ⊥
+        no_unbound (v, first) = not_unsafe q v is first
+
+        pub query_concept : (name : List ℕ) → IsFirstFault p.ontology q.atoms (shape_errors.UnknownConcept name) → FirstOffence (lines ++ text ∷ []) (raised p.lines) reason.UnknownConcept
+        unfolding said
+        query_concept name fault = refused_by lines text (line.Ask q) p next says reason.UnknownConcept (unknown_concept next.keeps.said p.ontology next.keeps.ontology q name fault)
+            (none_concept said (line.Ask q) query_order (λ no'. no') (λ no'. no') (not_large q is) no_unbound)
+
+        -- the first unknown atom is one
+        pub query_role : (name : List ℕ) → IsFirstFault p.ontology q.atoms (shape_errors.UnknownRole name) → FirstOffence (lines ++ text ∷ []) (raised p.lines) reason.UnknownRole
+        unfolding said
+        query_role name fault =
+            let found = unknown_role next.keeps.said p.ontology next.keeps.ontology q name fault in
+            refused_by lines text (line.Ask q) p next says reason.UnknownRole found
+            (none_role said (line.Ask q) query_order (λ no'. no') (λ no'. no') (not_large q is) no_unbound
+            (λ other. not_both_first next.keeps.said.axioms q other.0 found.0 other.1 found.1 found.2 other.2 found.3))
+
+        pub query_more : All (IsKnown p.ontology) q.atoms → KeepsPartial (lines ++ text ∷ []) (record { ontology = p.ontology; facts = p.facts; asked = Some q; lines = raised p.lines })
+        unfolding said
+        query_more known = kept_more lines text (line.Ask q) p next says
+            (none_holds said (line.Ask q) query_order (λ no'. no') (λ no'. no') (not_large q is) no_unbound
+            (λ found. none_unknown next.keeps.said p.ontology next.keeps.ontology q known (atom.Concept found.0 found.1) found.2)
+            (λ found. none_unknown next.keeps.said p.ontology next.keeps.ontology q known (atom.Role found.0 found.1 found.2) found.3)
+            (λ no'. no'))
+            _ refl
+            (ontology_same next.keeps.said (with_line next.keeps.said (line.Ask q)) p.ontology refl next.keeps.ontology)
+            next.keeps.facts
+            refl
+            (for_this (IsAskable p.ontology) q (record { within = is; known = known }))
+
+pub not_both : {b : Bool} → b ≡ false → b ≡ true → ⊥
+not_both off on = cc
+
+-- the limit that an error names
+pub passes_as : (o : Terminology) (a : Statement) (e : ExtendError) (w : Which) → e ≡ errors.TooMany w → Extends o a (Err e) → Passes o a w
+passes_as o a e w is extends = (subst (λ (x : ExtendError). Extends o a (Err x)) is extends).0
+
+-- ---- a query that is refused whatever stands before it
+
+module _ (lines : List (List ℕ)) (text : List ℕ) (p : Partial) (next : NextText lines text p) where
+  -- what asks too much, or for a variable that no atom has, is a query, and only the one before it can make it late
+  late_order : (d : DocLine) (P : DocLine → Type 0) → (P line.Blank → ⊥) → ((a : Statement) → P (line.Axiom a) → ⊥) → ((r : NamedRow) → P (line.Fact r) → ⊥) → P d
+      → IsSome next.keeps.said.query → IsOutOfOrder next.keeps.said d
+  late_order line.Blank P blank none_axiom none_fact is some = absurd (blank is)
+  late_order (line.Axiom a) P blank none_axiom none_fact is some = absurd (none_axiom a is)
+  late_order (line.Fact r) P blank none_axiom none_fact is some = absurd (none_fact r is)
+  late_order (line.Ask q) P blank none_axiom none_fact is some = some
+
+  large_order : (d : DocLine) → AsksTooMuch d → IsSome next.keeps.said.query → IsOutOfOrder next.keeps.said d
+  large_order d = late_order d AsksTooMuch (λ no'. no') (λ a no'. no') (λ r no'. no')
+
+  unsafe_order : (d : DocLine) → IsUnsafe d → IsSome next.keeps.said.query → IsOutOfOrder next.keeps.said d
+  unsafe_order d = late_order d IsUnsafe (λ no'. no') (λ a no'. no') (λ r no'. no')
+
+  pub ask_refused_late : (why : Reason) → IsAskFault text why → is_some p.asked ≡ true → FirstOffence (lines ++ text ∷ []) (raised p.lines) reason.Misplaced
+  ask_refused_late reason.TooLarge (d, says, large) some = ask_late lines text p next d says (large_order d large (asked_too p.asked next.keeps.said.query next.keeps.asked some))
+  ask_refused_late reason.Unsafe (d, says, both) some = ask_late lines text p next d says (unsafe_order d both.0 (asked_too p.asked next.keeps.said.query next.keeps.asked some))
+  ask_refused_late reason.TooLong f some = absurd f
+  ask_refused_late reason.Misplaced f some = absurd f
+  ask_refused_late reason.NotBuilt f some = absurd f
+  ask_refused_late reason.PassesLimit f some = absurd f
+  ask_refused_late reason.UnknownConcept f some = absurd f
+  ask_refused_late reason.UnknownRole f some = absurd f
+  ask_refused_late reason.TooManyFacts f some = absurd f
+
+  large_now : (d : DocLine) → IsDocLine text d → AsksTooMuch d → is_some p.asked ≡ false → FirstOffence (lines ++ text ∷ []) (raised p.lines) reason.TooLarge
+  large_now line.Blank says large none = absurd large
+  large_now (line.Axiom a) says large none = absurd large
+  large_now (line.Fact r) says large none = absurd large
+  large_now (line.Ask q) says large none = query_large lines text p next q says none large
+
+  unsafe_now : (d : DocLine) → IsDocLine text d → IsUnsafe d → (AsksTooMuch d → ⊥) → is_some p.asked ≡ false → FirstOffence (lines ++ text ∷ []) (raised p.lines) reason.Unsafe
+  unsafe_now line.Blank says unsafe small none = absurd unsafe
+  unsafe_now (line.Axiom a) says unsafe small none = absurd unsafe
+  unsafe_now (line.Fact r) says unsafe small none = absurd unsafe
+  unsafe_now (line.Ask q) says (v, first) small none = query_unsafe lines text p next q says none small v first
+
+  pub ask_refused : (why : Reason) → IsAskFault text why → is_some p.asked ≡ false → FirstOffence (lines ++ text ∷ []) (raised p.lines) why
+  ask_refused reason.TooLarge (d, says, large) none = large_now d says large none
+  ask_refused reason.Unsafe (d, says, both) none = unsafe_now d says both.0 both.1 none
+  ask_refused reason.TooLong f none = absurd f
+  ask_refused reason.Misplaced f none = absurd f
+  ask_refused reason.NotBuilt f none = absurd f
+  ask_refused reason.PassesLimit f none = absurd f
+  ask_refused reason.UnknownConcept f none = absurd f
+  ask_refused reason.UnknownRole f none = absurd f
+  ask_refused reason.TooManyFacts f none = absurd f
+
+-- what an error of reading says of a query
+pub large_fault : (text : List ℕ) (e : CommandError) → e ≡ commands.TooLarge → IsFaultOf (IsDocLine text) e → IsAskFault text reason.TooLarge
+large_fault text e same fault = let f = subst (λ (x : CommandError). IsFaultOf (IsDocLine text) x) same fault in (line.Ask f.0, f.1, f.2)
+
+pub unsafe_fault : (text : List ℕ) (e : CommandError) (v : List ℕ) → e ≡ commands.Unsafe v → IsFaultOf (IsDocLine text) e → IsAskFault text reason.Unsafe
+unsafe_fault text e v same fault =
+    let f = subst (λ (x : CommandError). IsFaultOf (IsDocLine text) x) same fault in
+    (line.Ask f.0, f.1, ((v, f.3), small_not_too_large f.0 f.2))
+
+-- the reason of a row whose name no axiom has
+pub unknown_draft : (p : Partial) (why : Reason) (r : NamedRow) → why ≡ unknown_of r → drafts.Refused why (raised p.lines) ≡ drafts.Refused (unknown_of r) (raised p.lines)
+unknown_draft p why r same = ap (λ (w : Reason). drafts.Refused w (raised p.lines)) same
+
+-- a row with a place has a name that the axioms have
+pub place_named : (o : Terminology) (r : NamedRow) (place : ℕ) → IsPlaceOf o r place → LacksName o r → ⊥
+place_named o (row.Concept c a) place is lacks = lacks (got_there o.concepts place c is)
+place_named o (row.Role p a b) place is lacks = lacks (got_there o.roles place p is)
+
+-- what a test says
+pub fits_true : (b : Bool) (P Q : Type 0) → b ≡ true → MatchBool b P Q → P
+fits_true true P Q is m = m
+fits_true false P Q is m = absurd cc
+
+pub fits_false : (b : Bool) (P Q : Type 0) → b ≡ false → MatchBool b P Q → Q
+fits_false true P Q is m = absurd cc
+fits_false false P Q is m = m

@@ -1,22 +1,27 @@
 -- What a document is, and which of its lines offends first.
-use Rattle.std.specs.Prelude.{◌≡◌, ◌≢◌, ℕ, ◌+◌, ◌<◌, ◌⊎◌, List, [], ◌∷◌, ◌++◌, length, Contains, Option, Some, None, IsSome}
+use Rattle.std.specs.Prelude.{◌≡◌, ◌≢◌, ℕ, ◌+◌, ◌<◌, ◌⊎◌, List, [], ◌∷◌, ◌++◌, length, All, Contains, Option, Some, None, IsSome}
 use Rattle.std.specs.List.{flat_map}
 use Rattle.dl_base.specs.Ontology.{Terminology}
 use Rattle.dl_base.specs.Axiom.{Statement, with_names, IsExtended}
 use Rattle.dl_base.specs.Rows.{AreRowsOf, AreIndividuals}
 use Rattle.dl_base.specs.Query.{Question}
 use Rattle.dl_base.specs.declared.axiom.NamedBasic.TheVariants as named
+use Rattle.dl_base.specs.declared.axiom.NamedHead.{NamedHead}
 use Rattle.dl_base.specs.declared.axiom.NamedHead.TheVariants as named_head
+use Rattle.dl_base.specs.declared.axiom.NamedInclusion.{NamedInclusion}
 use Rattle.dl_base.specs.declared.row.NamedRow.{NamedRow}
 use Rattle.dl_base.specs.declared.row.NamedRow.TheVariants as row
-use Rattle.dl_base.specs.declared.query.Term.TheVariants as term
+use Rattle.dl_base.specs.declared.query.Term.{Term}
+use Rattle.dl_base.specs.declared.query.Atom.{Atom}
 use Rattle.dl_base.specs.declared.query.Atom.TheVariants as atom
+use Rattle.cq_reader.specs.QueryLimits.{IsTooLarge, IsFirstUnbound}
+use Rattle.query_shape.specs.ShapeFault.{IsKnown}
 use Rattle.obda_run.specs.Lines.{AreLines}
-use Rattle.obda_run.specs.Forms.{IsDocLine}
-use Rattle.obda_run.specs.declared.forms.DocLine.{DocLine}
-use Rattle.obda_run.specs.declared.forms.DocLine.TheVariants as line
-use Rattle.obda_run.specs.declared.document.Reason.{Reason}
-use Rattle.obda_run.specs.declared.document.Reason.TheVariants as reason
+use Rattle.script_reader.specs.DocLines.{IsDocLine}
+use Rattle.script_reader.specs.declared.doc_line.DocLine.{DocLine}
+use Rattle.script_reader.specs.declared.doc_line.DocLine.TheVariants as line
+use Rattle.obda_run.specs.declared.reason.Reason.{Reason}
+use Rattle.obda_run.specs.declared.reason.Reason.TheVariants as reason
 
 -- ---- what the lines say
 
@@ -29,67 +34,114 @@ pub record Context : Type 0 where
 abbrev pub nothing_said : Context
 nothing_said = record { axioms = []; facts = []; query = None }
 
--- whatever is in the one concept is in the other
-abbrev pub sub_class : List ℕ → List ℕ → Statement
-sub_class sub sup = record {
-  concepts = sub ∷ sup ∷ [];
-  roles = [];
-  inclusions = record { body = named.Concept sub ∷ []; head = named_head.Basic (named.Concept sup) } ∷ [];
-}
-
--- the individual is in the concept
-abbrev pub fact_of : List ℕ → List ℕ → NamedRow
-fact_of concept individual = row.Concept concept individual
-
--- which individuals are in the concept?
-abbrev pub who_is_in : List ℕ → List ℕ → Question
-who_is_in concept variable = record { answers = variable ∷ []; atoms = atom.Concept concept (term.Var variable) ∷ [] }
-
 -- what is said once this line is said too
 abbrev pub with_line : Context → DocLine → Context
 with_line before line.Blank = before
-with_line before (line.SubClass sub sup) = record before { axioms = before.axioms ++ sub_class sub sup ∷ [] }
-with_line before (line.Fact concept individual) = record before { facts = before.facts ++ fact_of concept individual ∷ [] }
-with_line before (line.Ask variable concept) = record before { query = Some (who_is_in concept variable) }
+with_line before (line.Axiom a) = record before { axioms = before.axioms ++ a ∷ [] }
+with_line before (line.Fact r) = record before { facts = before.facts ++ r ∷ [] }
+with_line before (line.Ask q) = record before { query = Some q }
 
--- ---- what is wrong with a line
-
--- the distinct concept names of the axioms, and their inclusions
+-- the distinct concept names and role names of the axioms, and their inclusions
 abbrev pub concept_names : List Statement → List (List ℕ)
 concept_names axioms = with_names [] (flat_map (λ a. a.concepts) axioms)
 
-abbrev pub inclusion_count : List Statement → ℕ
-inclusion_count axioms = length (flat_map (λ a. a.inclusions) axioms)
+abbrev pub role_names : List Statement → List (List ℕ)
+role_names axioms = with_names [] (flat_map (λ a. a.roles) axioms)
 
--- the axioms have more than 512 concept names or 4,096 inclusions
+abbrev pub inclusions_in : List Statement → List NamedInclusion
+inclusions_in axioms = flat_map (λ a. a.inclusions) axioms
+
+-- ---- what is wrong with a line
+
+-- axioms stand before facts, and these before the one query
+abbrev pub IsOutOfOrder : Context → DocLine → Type 0
+IsOutOfOrder before line.Blank = ⊥
+IsOutOfOrder before (line.Axiom a) = (before.facts ≢ []) ⊎ IsSome before.query
+IsOutOfOrder before (line.Fact r) = IsSome before.query
+IsOutOfOrder before (line.Ask q) = IsSome before.query
+
+-- a head that isn't built yet: that there is a successor, or nothing
+abbrev pub IsNewHead : NamedHead → Type 0
+IsNewHead (named_head.Basic (named.Concept name)) = ⊥
+IsNewHead (named_head.Basic (named.Exists r)) = Unit {0}
+IsNewHead named_head.Nothing = Unit {0}
+
+abbrev pub HasNewHead : Statement → Type 0
+HasNewHead a = (i : NamedInclusion) × Contains a.inclusions i × IsNewHead i.head
+
+abbrev pub IsNotBuilt : DocLine → Type 0
+IsNotBuilt line.Blank = ⊥
+IsNotBuilt (line.Axiom a) = HasNewHead a
+IsNotBuilt (line.Fact r) = ⊥
+IsNotBuilt (line.Ask q) = ⊥
+
+-- the axioms have a body of more than 8 members, or more than 512 concept names, 256 role names or 4,096 inclusions
+abbrev pub HasLongBody : List Statement → Type 0
+HasLongBody axioms = (i : NamedInclusion) × Contains (inclusions_in axioms) i × (8 < length i.body)
+
 abbrev pub TooManyAxioms : List Statement → Type 0
-TooManyAxioms axioms = (512 < length (concept_names axioms)) ⊎ (4096 < inclusion_count axioms)
+TooManyAxioms axioms = HasLongBody axioms ⊎ (512 < length (concept_names axioms)) ⊎ (256 < length (role_names axioms)) ⊎ (4096 < length (inclusions_in axioms))
+
+-- with the line the axioms pass a limit
+abbrev pub PassesLimit : Context → DocLine → Type 0
+PassesLimit before line.Blank = ⊥
+PassesLimit before (line.Axiom a) = TooManyAxioms (before.axioms ++ a ∷ [])
+PassesLimit before (line.Fact r) = ⊥
+PassesLimit before (line.Ask q) = ⊥
+
+-- the query has more than 24 atoms, distinct terms or answer places
+abbrev pub AsksTooMuch : DocLine → Type 0
+AsksTooMuch line.Blank = ⊥
+AsksTooMuch (line.Axiom a) = ⊥
+AsksTooMuch (line.Fact r) = ⊥
+AsksTooMuch (line.Ask q) = IsTooLarge q
+
+-- an answer variable is in no atom
+abbrev pub IsUnsafe : DocLine → Type 0
+IsUnsafe line.Blank = ⊥
+IsUnsafe (line.Axiom a) = ⊥
+IsUnsafe (line.Fact r) = ⊥
+IsUnsafe (line.Ask q) = (v : List ℕ) × IsFirstUnbound q v
+
+-- the names that the axioms have
+abbrev pub vocabulary : List Statement → Terminology
+vocabulary axioms = record { concepts = concept_names axioms; roles = role_names axioms; inclusions = [] }
+
+-- the first atom whose name the axioms lack
+pub record IsFirstUnknown (axioms : List Statement) (q : Question) (a : Atom) : Type 0 where
+  pub front : List Atom
+  pub more : List Atom
+  pub parts : q.atoms ≡ front ++ a ∷ more
+  pub known : All (IsKnown (vocabulary axioms)) front
+  pub unknown : IsKnown (vocabulary axioms) a → ⊥
+
+-- the line names a concept that no axiom names, a query in its first atom with an unknown name
+abbrev pub NamesUnknownConcept : Context → DocLine → Type 0
+NamesUnknownConcept before line.Blank = ⊥
+NamesUnknownConcept before (line.Axiom a) = ⊥
+NamesUnknownConcept before (line.Fact (row.Concept c a)) = Contains (concept_names before.axioms) c → ⊥
+NamesUnknownConcept before (line.Fact (row.Role p a b)) = ⊥
+NamesUnknownConcept before (line.Ask q) = (name : List ℕ) × (t : Term) × IsFirstUnknown before.axioms q (atom.Concept name t)
+
+-- the same of a role
+abbrev pub NamesUnknownRole : Context → DocLine → Type 0
+NamesUnknownRole before line.Blank = ⊥
+NamesUnknownRole before (line.Axiom a) = ⊥
+NamesUnknownRole before (line.Fact (row.Concept c a)) = ⊥
+NamesUnknownRole before (line.Fact (row.Role p a b)) = Contains (role_names before.axioms) p → ⊥
+NamesUnknownRole before (line.Ask q) = (name : List ℕ) × (t : Term) × (u : Term) × IsFirstUnknown before.axioms q (atom.Role name t u)
 
 -- the facts have more than 1,000,000 rows or 65,536 individuals, each counted once
 abbrev pub TooManyFacts : List NamedRow → Type 0
 TooManyFacts facts = ((rows : List NamedRow) × AreRowsOf facts rows × (1000000 < length rows))
     ⊎ ((names : List (List ℕ)) × AreIndividuals facts names × (65536 < length names))
 
--- with the line the document passes a limit
-abbrev pub PassesLimit : Context → DocLine → Type 0
-PassesLimit before line.Blank = ⊥
-PassesLimit before (line.SubClass sub sup) = TooManyAxioms (before.axioms ++ sub_class sub sup ∷ [])
-PassesLimit before (line.Fact concept individual) = TooManyFacts (before.facts ++ fact_of concept individual ∷ [])
-PassesLimit before (line.Ask variable concept) = ⊥
-
--- axioms stand before facts, and these before the one query
-abbrev pub IsOutOfOrder : Context → DocLine → Type 0
-IsOutOfOrder before line.Blank = ⊥
-IsOutOfOrder before (line.SubClass sub sup) = (before.facts ≢ []) ⊎ IsSome before.query
-IsOutOfOrder before (line.Fact concept individual) = IsSome before.query
-IsOutOfOrder before (line.Ask variable concept) = IsSome before.query
-
--- the line names a concept that no axiom names
-abbrev pub NamesUnknown : Context → DocLine → Type 0
-NamesUnknown before line.Blank = ⊥
-NamesUnknown before (line.SubClass sub sup) = ⊥
-NamesUnknown before (line.Fact concept individual) = Contains (concept_names before.axioms) concept → ⊥
-NamesUnknown before (line.Ask variable concept) = Contains (concept_names before.axioms) concept → ⊥
+-- with the line there are too many facts
+abbrev pub MakesTooMany : Context → DocLine → Type 0
+MakesTooMany before line.Blank = ⊥
+MakesTooMany before (line.Axiom a) = ⊥
+MakesTooMany before (line.Fact r) = TooManyFacts (before.facts ++ r ∷ [])
+MakesTooMany before (line.Ask q) = ⊥
 
 -- the line says something that this holds of
 abbrev pub SaysWhere : List ℕ → (DocLine → Type 0) → Type 0
@@ -97,20 +149,32 @@ SaysWhere text P = (d : DocLine) × IsDocLine text d × P d
 
 -- the reason holds of the line
 abbrev pub HoldsOf : Context → List ℕ → Reason → Type 0
-HoldsOf before text reason.NotBuilt = (4096 < length text) ⊎ ((d : DocLine) → IsDocLine text d → ⊥) ⊎ SaysWhere text (PassesLimit before)
-HoldsOf before text reason.OutOfOrder = SaysWhere text (IsOutOfOrder before)
-HoldsOf before text reason.UnknownConcept = SaysWhere text (NamesUnknown before)
+HoldsOf before text reason.TooLong = 4096 < length text
+HoldsOf before text reason.Misplaced = ((d : DocLine) → IsDocLine text d → ⊥) ⊎ SaysWhere text (IsOutOfOrder before)
+HoldsOf before text reason.NotBuilt = SaysWhere text IsNotBuilt
+HoldsOf before text reason.PassesLimit = SaysWhere text (PassesLimit before)
+HoldsOf before text reason.TooLarge = SaysWhere text AsksTooMuch
+HoldsOf before text reason.Unsafe = SaysWhere text IsUnsafe
+HoldsOf before text reason.UnknownConcept = SaysWhere text (NamesUnknownConcept before)
+HoldsOf before text reason.UnknownRole = SaysWhere text (NamesUnknownRole before)
+HoldsOf before text reason.TooManyFacts = SaysWhere text (MakesTooMany before)
 
--- no reason before this one holds of the line
-abbrev pub NoneBefore : Context → List ℕ → Reason → Type 0
-NoneBefore before text reason.NotBuilt = Unit {0}
-NoneBefore before text reason.OutOfOrder = HoldsOf before text reason.NotBuilt → ⊥
-NoneBefore before text reason.UnknownConcept = (HoldsOf before text reason.NotBuilt → ⊥) × (HoldsOf before text reason.OutOfOrder → ⊥)
+-- the place of a reason in the order in which they are tried
+abbrev pub rank_of : Reason → ℕ
+rank_of reason.TooLong = 0
+rank_of reason.Misplaced = 1
+rank_of reason.NotBuilt = 2
+rank_of reason.PassesLimit = 3
+rank_of reason.TooLarge = 4
+rank_of reason.Unsafe = 5
+rank_of reason.UnknownConcept = 6
+rank_of reason.UnknownRole = 7
+rank_of reason.TooManyFacts = 8
 
 -- the line offends, and this is the first reason
 pub record Offends (before : Context) (text : List ℕ) (why : Reason) : Type 0 where
   pub holds : HoldsOf before text why
-  pub first : NoneBefore before text why
+  pub first : (other : Reason) → rank_of other < rank_of why → HoldsOf before text other → ⊥
 
 -- the line says this, and no reason holds of it
 pub record Accepts (before : Context) (text : List ℕ) (d : DocLine) : Type 0 where
@@ -137,9 +201,15 @@ pub record FirstOffence (lines : List (List ℕ)) (n : ℕ) (why : Reason) : Typ
 
 -- the code of a reason
 abbrev pub code_of : Reason → ℕ
+code_of reason.TooLong = 2
+code_of reason.Misplaced = 1
 code_of reason.NotBuilt = 99
-code_of reason.OutOfOrder = 1
+code_of reason.PassesLimit = 5
+code_of reason.TooLarge = 16
+code_of reason.Unsafe = 17
 code_of reason.UnknownConcept = 6
+code_of reason.UnknownRole = 7
+code_of reason.TooManyFacts = 11
 
 -- the ontology that the axioms make, one after the other
 pub data Makes : List Statement → Terminology → Type 0 where

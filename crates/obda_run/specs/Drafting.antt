@@ -1,17 +1,23 @@
 -- What is kept of a document while its lines are read.
-use Rattle.std.specs.Prelude.{◌≡◌, ℕ, ◌≤◌, ◌<◌, ◌^◌, List, [], length, Option, Some, None, Result, Ok, Err, slice_get}
+use Rattle.std.specs.Prelude.{◌≡◌, ℕ, ◌≤◌, ◌<◌, ◌^◌, List, length, All, Contains, Some, Result, Ok, Err}
+use Rattle.std.specs.Option.{ForSome}
 use Rattle.std.specs.List.{AllByRecursion}
 use Rattle.dl_base.specs.Ontology.{Terminology}
-use Rattle.dl_base.specs.Query.{Question}
+use Rattle.dl_base.specs.Query.{Question, IsQuery}
 use Rattle.dl_base.specs.Replies.{IsReply, Answers}
 use Rattle.dl_base.specs.declared.concept.Basic.TheVariants as basic
 use Rattle.dl_base.specs.declared.concept.Head.{Head}
 use Rattle.dl_base.specs.declared.concept.Head.TheVariants as head
+use Rattle.dl_base.specs.declared.axiom.NamedInclusion.{NamedInclusion}
 use Rattle.dl_base.specs.declared.row.NamedRow.{NamedRow}
-use Rattle.obda_run.specs.Forms.{IsDocLine}
-use Rattle.obda_run.specs.Document.{Context, nothing_said, Accepted, FirstOffence, Makes, concept_names, inclusion_count, who_is_in, Means, Refused as IsRefused, Says}
+use Rattle.dl_base.specs.declared.row.NamedRow.TheVariants as row
+use Rattle.query_shape.specs.ShapeFault.{IsKnown}
+use Rattle.script_reader.specs.DocLines.{IsDocLine, IsFit}
+use Rattle.obda_run.specs.Document.{Context, nothing_said, Accepted, FirstOffence, Makes, concept_names, role_names, inclusions_in, IsNewHead, AsksTooMuch, IsUnsafe, SaysWhere, Means, Refused as IsRefused, Says}
 use Rattle.obda_run.specs.Facts.{KeepsFacts}
-use Rattle.obda_run.specs.declared.forms.DocLine.{DocLine}
+use Rattle.script_reader.specs.declared.doc_line.DocLine.{DocLine}
+use Rattle.obda_run.specs.declared.reason.Reason.{Reason}
+use Rattle.obda_run.specs.declared.reason.Reason.TheVariants as reason
 use Rattle.obda_run.specs.declared.document.Partial.{Partial}
 use Rattle.obda_run.specs.declared.document.Draft.{Draft}
 use Rattle.obda_run.specs.declared.document.Draft.TheVariants as draft
@@ -25,20 +31,19 @@ IsConceptHead (head.Basic (basic.Concept c)) = Unit {0}
 IsConceptHead (head.Basic (basic.Exists r)) = ⊥
 IsConceptHead head.Nothing = ⊥
 
--- the place of the concept that the query asks for, if there is a query
-abbrev pub IsAsked : Terminology → Option Question → Option ℕ → Type 0
-IsAsked o None None = Unit {0}
-IsAsked o None (Some place) = ⊥
-IsAsked o (Some q) None = ⊥
-IsAsked o (Some q) (Some place) = (concept : List ℕ) × (variable : List ℕ) × (q ≡ who_is_in concept variable) × (slice_get o.concepts place ≡ Some concept)
-
--- the ontology is that of the axioms, and no head has a role or is nothing
+-- the ontology is that of the axioms, and each head is a concept name
 pub record KeepsOntology (said : Context) (o : Terminology) : Type 0 where
   pub makes : Makes said.axioms o
-  pub names : o.concepts ≡ concept_names said.axioms
-  pub count : length o.inclusions ≡ inclusion_count said.axioms
-  pub no_roles : o.roles ≡ []
-  pub plain : AllByRecursion (λ i. IsConceptHead i.head) o.inclusions
+  pub concepts : o.concepts ≡ concept_names said.axioms
+  pub roles : o.roles ≡ role_names said.axioms
+  pub count : length o.inclusions ≡ length (inclusions_in said.axioms)
+  pub short : (i : NamedInclusion) → Contains (inclusions_in said.axioms) i → length i.body ≤ 8
+  pub built : AllByRecursion (λ i. IsConceptHead i.head) o.inclusions
+
+-- a query within the limits, whose names the ontology has
+pub record IsAskable (o : Terminology) (q : Question) : Type 0 where
+  pub within : IsQuery q
+  pub known : All (IsKnown o) q.atoms
 
 -- none of the lines is refused, and this is what they say
 pub record KeepsPartial (lines : List (List ℕ)) (partial : Partial) : Type 0 where
@@ -46,7 +51,8 @@ pub record KeepsPartial (lines : List (List ℕ)) (partial : Partial) : Type 0 w
   pub accepted : Accepted nothing_said lines said
   pub ontology : KeepsOntology said partial.ontology
   pub facts : KeepsFacts partial.ontology said.facts partial.facts
-  pub asked : IsAsked partial.ontology said.query partial.asked
+  pub asked : partial.asked ≡ said.query
+  pub askable : ForSome partial.asked (IsAskable partial.ontology)
   pub number : partial.lines ≡ length lines
 
 -- the lines so far, or the first of them that is refused
@@ -54,12 +60,43 @@ abbrev pub KeepsDraft : List (List ℕ) → Draft → Type 0
 KeepsDraft lines (draft.Reading partial) = KeepsPartial lines partial
 KeepsDraft lines (draft.Refused why n) = FirstOffence lines n why
 
--- the next line is not too long, and says this
-pub record NextLine (lines : List (List ℕ)) (text : List ℕ) (said : DocLine) (partial : Partial) : Type 0 where
+-- the next line is not too long
+pub record NextText (lines : List (List ℕ)) (text : List ℕ) (partial : Partial) : Type 0 where
   pub few : length lines < 2 ^ 63
   pub short : length text ≤ 4096
-  pub says : IsDocLine text said
   pub keeps : KeepsPartial lines partial
+
+-- the next line is not too long, and says this
+pub record NextLine (lines : List (List ℕ)) (text : List ℕ) (said : DocLine) (partial : Partial) : Type 0 where
+  pub next : NextText lines text partial
+  pub says : IsDocLine text said
+  pub fit : IsFit said
+
+-- the line is a query that is refused for this reason, whatever stands before it
+abbrev pub IsAskFault : List ℕ → Reason → Type 0
+IsAskFault text reason.TooLarge = SaysWhere text AsksTooMuch
+IsAskFault text reason.Unsafe = SaysWhere text (λ d. IsUnsafe d × (AsksTooMuch d → ⊥))
+IsAskFault text reason.TooLong = ⊥
+IsAskFault text reason.Misplaced = ⊥
+IsAskFault text reason.NotBuilt = ⊥
+IsAskFault text reason.PassesLimit = ⊥
+IsAskFault text reason.UnknownConcept = ⊥
+IsAskFault text reason.UnknownRole = ⊥
+IsAskFault text reason.TooManyFacts = ⊥
+
+-- an inclusion has a head that isn't built yet
+abbrev pub HasNewHeadIn : List NamedInclusion → Type 0
+HasNewHeadIn inclusions = (i : NamedInclusion) × Contains inclusions i × IsNewHead i.head
+
+-- the ontology lacks the concept or the role of the row
+abbrev pub LacksName : Terminology → NamedRow → Type 0
+LacksName o (row.Concept c a) = Contains o.concepts c → ⊥
+LacksName o (row.Role p a b) = Contains o.roles p → ⊥
+
+-- why such a row is refused
+abbrev pub unknown_of : NamedRow → Reason
+unknown_of (row.Concept c a) = reason.UnknownConcept
+unknown_of (row.Role p a b) = reason.UnknownRole
 
 -- the lines are a whole document, and this is what it says
 pub record IsWhole (lines : List (List ℕ)) (document : Document) : Type 0 where
@@ -67,7 +104,8 @@ pub record IsWhole (lines : List (List ℕ)) (document : Document) : Type 0 wher
   pub accepted : Accepted nothing_said lines said
   pub ontology : KeepsOntology said document.ontology
   pub facts : KeepsFacts document.ontology said.facts document.facts
-  pub asked : IsAsked document.ontology said.query (Some document.asked)
+  pub asked : said.query ≡ Some document.asked
+  pub askable : IsAskable document.ontology document.asked
 
 -- what the lines are, where there are no more
 abbrev pub Finishes : List (List ℕ) → Result Document Status → Type 0

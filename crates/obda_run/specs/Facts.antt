@@ -1,33 +1,35 @@
 -- What is kept of the facts of a document.
-use Rattle.std.specs.Prelude.{◌≡◌, ℕ, ◌≤◌, ◌↔◌, List, length, Contains, Option, Some, None, IsSome, slice_get}
-use Rattle.std.specs.BTreeMap.{get, IsOrdered, btree_map_len}
+use Rattle.std.specs.Prelude.{◌≡◌, ◌≢◌, ℕ, ◌≤◌, ◌↔◌, List, [], ◌∷◌, length, AllPairs, Contains, Some, slice_get}
 use Rattle.dl_base.specs.Ontology.{Terminology}
-use Rattle.dl_base.specs.Rows.{name_cmp, AreRowsOf, IsIndividual, Held}
-use Rattle.dl_base.specs.Sets.{HasBasic}
-use Rattle.dl_base.specs.declared.concept.Basic.{Basic}
+use Rattle.dl_base.specs.Rows.{IsIndividual}
 use Rattle.dl_base.specs.declared.row.NamedRow.{NamedRow}
-use Rattle.dl_base.specs.declared.row.NamedRow.TheVariants as row
+use Rattle.dl_base.specs.declared.row.NamedRow.TheVariants as named
+use Rattle.dl_base.specs.declared.row.Row.{Row}
+use Rattle.dl_base.specs.declared.row.Row.TheVariants as row
 use Rattle.obda_run.specs.declared.facts.Facts.{Facts}
 
--- the name has this place in the book, or none where the book hasn't got it
-abbrev pub IsFound : List (List ℕ) → List ℕ → Option ℕ → Type 0
-IsFound book name None = Contains book name → ⊥
-IsFound book name (Some place) = slice_get book place ≡ Some name
+-- the place of the concept or the role that the row is of
+abbrev pub IsPlaceOf : Terminology → NamedRow → ℕ → Type 0
+IsPlaceOf o (named.Concept c a) place = slice_get o.concepts place ≡ Some c
+IsPlaceOf o (named.Role p a b) place = slice_get o.roles place ≡ Some p
 
--- the set that was found, or the empty one where none was
-abbrev pub IsSetOf : Option (List ℕ) → List ℕ → Type 0
-IsSetOf None set = (b : Basic) → HasBasic set b → ⊥
-IsSetOf (Some found) set = set ≡ found
+-- the row by the numbers of its names
+abbrev pub NumbersRow : Terminology → List (List ℕ) → NamedRow → Row → Type 0
+NumbersRow o names (named.Concept c a) (row.Concept d n) = (slice_get o.concepts d ≡ Some c) × (slice_get names n ≡ Some a)
+NumbersRow o names (named.Role p a b) (row.Role q n m) = (slice_get o.roles q ≡ Some p) × (slice_get names n ≡ Some a) × (slice_get names m ≡ Some b)
+NumbersRow o names (named.Concept c a) (row.Role q n m) = ⊥
+NumbersRow o names (named.Role p a b) (row.Concept d n) = ⊥
 
--- Each individual has exactly what it holds by the asserted rows, the rows are counted once each, and the limits hold.
+-- the individuals of the row, from left to right
+abbrev pub names_in : NamedRow → List (List ℕ)
+names_in (named.Concept c a) = a ∷ []
+names_in (named.Role p a b) = a ∷ b ∷ []
+
+-- The rows by numbers are those that are asserted, each once, and the individuals are numbered, within the limits.
 pub record KeepsFacts (o : Terminology) (asserted : List NamedRow) (facts : Facts) : Type 0 where
-  pub rows : List NamedRow
-  pub are : AreRowsOf asserted rows
-  pub count : facts.rows ≡ length rows
-  pub few_rows : length rows ≤ 1000000
-  pub few : btree_map_len facts.held ≤ 65536
-  pub ordered : IsOrdered name_cmp facts.held
-  pub named : (a : List ℕ) → IsSome (get name_cmp facts.held a) ↔ IsIndividual asserted a
-  pub held : (a set : List ℕ) → get name_cmp facts.held a ≡ Some set → (b : Basic) → HasBasic set b ↔ Held o asserted a b
-  pub known : (concept a : List ℕ) → Contains asserted (row.Concept concept a) → Contains o.concepts concept
-  pub no_roles : (role a b : List ℕ) → Contains asserted (row.Role role a b) → ⊥
+  pub distinct : AllPairs (λ x y. x ≢ y) facts.individuals
+  pub individual : (a : List ℕ) → Contains facts.individuals a ↔ IsIndividual asserted a
+  pub each : (r : NamedRow) → Contains asserted r → (n : Row) × Contains facts.rows.keys n × NumbersRow o facts.individuals r n
+  pub only : (n : Row) → Contains facts.rows.keys n → (r : NamedRow) × Contains asserted r × NumbersRow o facts.individuals r n
+  pub few_individuals : length facts.individuals ≤ 65536
+  pub few_rows : length facts.rows.keys ≤ 1000000

@@ -1,10 +1,9 @@
 pub mod Status
 pub mod Lines
 pub mod Feeding
-pub mod Forms
-pub mod FormReading
 pub mod Document
 pub mod Facts
+pub mod Completed
 pub mod Text
 pub mod Drafting
 pub mod Run

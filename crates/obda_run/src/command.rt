@@ -5,10 +5,11 @@ ghost use Rattle.host_io.specs.Causes.{Rose};
 ghost use Rattle.dl_base.specs.Ontology.{Terminology};
 ghost use Rattle.dl_base.specs.Query.{Question};
 ghost use Rattle.dl_base.specs.declared.row.NamedRow.{NamedRow};
+ghost use Rattle.obda_run.specs.Completed.{IsSound};
 ghost use Rattle.obda_run.specs.Document.{IsDocument, Refused, Asks};
 ghost use Rattle.obda_run.specs.Run.{IsAnswer, IsDocumentOf, Ran, Replies};
 
-use crate::answers::answers;
+use crate::answers::certain_answers;
 use crate::document::Document;
 use crate::input::read_document;
 use crate::reply::answers_text;
@@ -81,13 +82,14 @@ fn is_word(word: &String) -> bool
 
 /// Prints the reply to the document.
 fn reply<H: Host>(alloc: Global, host: &mut H, document: &Document) -> Status
+    requires { IsSound document.now }
     ensures only { (result ≡ Status.Done) ⊎ (result ≡ Status.PrintFault) ⊎ (result ≡ Status.NoMemory) }
     ensures fault { result ≡ Status.PrintFault → Rose (H.print_faults host.old) (H.print_faults host.new) }
     ensures later { H.print_faults host.old ≤ H.print_faults host.new }
     ensures silent { result ≡ Status.NoMemory → H.printed host.new ≡ H.printed host.old }
     ensures replies { (read : List ℕ) → IsDocumentOf read document.now → Replies result read (H.printed host.old) (H.printed host.new) }
 {
-    let Ok(keys) = answers::<Brand>(alloc, document, Blank::new(1)) else {
+    let Ok(keys) = certain_answers::<Brand>(alloc, document, Blank::new(1)) else {
         return Status::NoMemory;
     };
     let Ok(text) = answers_text(alloc, keys.items()) else {

@@ -1,53 +1,32 @@
 //! A document, as far as its lines are read.
-ghost use Rattle.std.specs.Prelude.{◌≡◌, ◌<◌, ◌≤◌, ◌^◌, ◌++◌, ◌∷◌, [], ◌↔◌, IsTrue, IfOk, IfErr, MatchOption, List, ℕ, length};
+ghost use Rattle.std.specs.Prelude.{◌≡◌, ◌<◌, ◌≤◌, ◌^◌, ◌++◌, ◌∷◌, [], ◌↔◌, IsTrue, IfOk, IfErr, None, List, ℕ, length, MatchOption};
+ghost use Rattle.std.specs.BTreeSet.{btree_set_len};
 ghost use Rattle.host_io.specs.Causes.{raised};
-ghost use Rattle.obda_run.specs.Lines.{line_of};
+ghost use Rattle.dl_base.specs.Ontology.{IsTerminology};
 ghost use Rattle.obda_run.specs.Feeding.{StandsFor};
-ghost use Rattle.obda_run.specs.Forms.{IsDocLine};
-ghost use Rattle.obda_run.specs.Document.{sub_class, code_of};
-ghost use Rattle.obda_run.specs.Drafting.{KeepsDraft, KeepsPartial, NextLine, Finishes};
+ghost use Rattle.obda_run.specs.Document.{IsNewHead};
+ghost use Rattle.obda_run.specs.Drafting.{Finishes, HasNewHeadIn, IsAskFault, KeepsDraft, KeepsPartial, LacksName, NextLine, NextText, unknown_of};
+ghost use Rattle.obda_run.specs.Facts.{IsPlaceOf};
 ghost use Rattle.obda_run.specs.Run.{IsFinal};
-ghost use Rattle.obda_run.specs.declared.forms.DocLine.{DocLine as Line};
 
 use crate::facts::Facts;
-use crate::forms::{DocLine, read_line};
 use crate::lines::OpenLine;
+use crate::reason::Reason;
 use crate::status::Status;
-use dl_base::{Axiom, ExtendError, Name, NamedBasic, NamedHead, NamedInclusion, Ontology};
-use plain_list::Items;
+use dl_base::{
+    Axiom, ExtendError, NamedBasic, NamedHead, NamedInclusion, NamedRow, Ontology, Query,
+};
+use query_shape::{ShapeError, shape};
+use script_reader::{CommandError, DocLine, read_doc_line};
 use std::alloc::{AllocError, Global};
-
-/// Why a line is refused.
-#[derive(Clone, Copy, Debug, PartialEq, Eq)]
-pub enum Reason {
-    /// It is longer than 4,096 bytes, or no line of a form that is built, or passes a limit.
-    NotBuilt,
-    /// Its form stands out of order.
-    OutOfOrder,
-    /// It names a concept that no axiom names.
-    UnknownConcept,
-}
-
-impl Reason {
-    /// The code of the reason in a reply.
-    pub fn code(self) -> u8
-        ensures { result ≡ code_of self }
-    {
-        match self {
-            Reason::NotBuilt => 99,
-            Reason::OutOfOrder => 1,
-            Reason::UnknownConcept => 6,
-        }
-    }
-}
 
 /// The lines so far, none of which is refused.
 #[derive(Drop)]
 pub struct Partial {
     pub ontology: Ontology,
     pub facts: Facts,
-    /// The place of the concept that is asked for.
-    pub asked: Option<u32>,
+    /// The query, whose names the ontology has.
+    pub asked: Option<Query>,
     /// How many lines there are so far.
     pub lines: u64,
 }
@@ -61,12 +40,13 @@ pub enum Draft {
     Refused { reason: Reason, line: u64 },
 }
 
-/// A whole document: what holds, and the place of the concept that is asked for.
+/// A whole document: what holds, and what is asked.
 #[derive(Drop)]
 pub struct Document {
     pub ontology: Ontology,
     pub facts: Facts,
-    pub asked: u32,
+    /// The query, whose names the ontology has.
+    pub asked: Query,
 }
 
 impl Draft {
@@ -90,9 +70,9 @@ impl Draft {
     {
         match self {
             Draft::Refused { reason, line } => Ok(Draft::Refused { reason, line }),
-            Draft::Reading(partial) => match said_by(alloc, line)? {
-                Some(said) => partial.take(alloc, said),
-                None => Ok(partial.refused(Reason::NotBuilt)),
+            Draft::Reading(partial) => match line.line() {
+                Some(text) => partial.take_text(alloc, text),
+                None => Ok(partial.refused(Reason::TooLong)),
             },
         }
     }
@@ -107,42 +87,36 @@ impl Draft {
                 code: reason.code(),
                 line,
             }),
-            Draft::Reading(partial) => {
-                let Partial {
-                    ontology,
-                    facts,
-                    asked,
-                    lines,
-                } = partial;
-                match asked {
-                    Some(asked) => Ok(Document {
-                        ontology,
-                        facts,
-                        asked,
-                    }),
-                    None => Err(Status::Refused {
-                        code: Reason::OutOfOrder.code(),
-                        line: lines.saturating_add(1),
-                    }),
-                }
-            }
+            Draft::Reading(partial) => partial.finish(),
         }
     }
 }
 
-/// What a line says, or `None` where it is too long or no line of a form that is built.
-fn said_by(alloc: Global, line: &OpenLine) -> Result<Option<DocLine>, AllocError>
-    ensures { IfOk result (λ said. MatchOption said
-        (length (line_of line.now) ≤ 4096 → (d : Line) → IsDocLine (line_of line.now) d → ⊥)
-        (λ d. (length (line_of line.now) ≤ 4096) × IsDocLine (line_of line.now) d)) }
-{
-    match line.line() {
-        Some(text) => read_line(alloc, text),
-        None => Ok(None),
-    }
-}
-
 impl Partial {
+    /// The document, where the lines are all of its lines. One without a query is refused at the line behind its last.
+    fn finish(self) -> Result<Document, Status>
+        ensures ending { IfErr result IsFinal }
+        ensures whole { (lines : List (List ℕ)) → length lines < 2 ^ 63 → KeepsPartial lines self → Finishes lines result }
+    {
+        let Partial {
+            ontology,
+            facts,
+            asked,
+            lines,
+        } = self;
+        match asked {
+            Some(asked) => Ok(Document {
+                ontology,
+                facts,
+                asked,
+            }),
+            None => Err(Status::Refused {
+                code: Reason::Misplaced.code(),
+                line: lines.saturating_add(1),
+            }),
+        }
+    }
+
     /// The draft whose next line is refused.
     fn refused(self, reason: Reason) -> Draft
         ensures { result ≡ Draft.Refused reason (raised self.lines) }
@@ -153,18 +127,28 @@ impl Partial {
         }
     }
 
+    /// The draft with one more line that is not too long.
+    fn take_text(self, alloc: Global, text: &[u8]) -> Result<Draft, AllocError>
+        ensures { (lines : List (List ℕ)) → NextText lines text.now self → IfOk result (KeepsDraft (lines ++ text.now ∷ [])) }
+    {
+        match read_doc_line(alloc, text) {
+            Ok(said) => self.take(alloc, said),
+            Err(CommandError::Syntax) => Ok(self.refused(Reason::Misplaced)),
+            Err(CommandError::TooLarge) => Ok(self.refuse_query(Reason::TooLarge)),
+            Err(CommandError::Unsafe(_)) => Ok(self.refuse_query(Reason::Unsafe)),
+            Err(CommandError::NoMemory) => Err(AllocError),
+        }
+    }
+
     /// The draft with one more line that says this.
     fn take(self, alloc: Global, said: DocLine) -> Result<Draft, AllocError>
         ensures { (lines : List (List ℕ)) (text : List ℕ) → NextLine lines text said self → IfOk result (KeepsDraft (lines ++ text ∷ [])) }
     {
         match said {
             DocLine::Blank => Ok(self.goes_on()),
-            DocLine::SubClass { sub, sup } => self.take_axiom(alloc, sub, sup),
-            DocLine::Fact {
-                concept,
-                individual,
-            } => self.take_fact(concept, individual),
-            DocLine::Ask { concept, .. } => Ok(self.take_query(concept)),
+            DocLine::Axiom(added) => self.take_axiom(alloc, &added),
+            DocLine::Fact(row) => self.take_fact(&row),
+            DocLine::Ask(query) => self.take_query(alloc, query),
         }
     }
 
@@ -188,23 +172,28 @@ impl Partial {
 
     /// Whether an axiom may stand here: no fact and no query stands before it.
     fn takes_axioms(&self) -> bool
-        ensures { IsTrue result ↔ ((self.now.facts.rows ≡ 0) × (self.now.asked ≡ None)) }
+        ensures { IsTrue result ↔ ((btree_set_len self.now.facts.rows ≡ 0) × (self.now.asked ≡ None)) }
     {
         self.facts.is_empty() && self.asked.is_none()
     }
 
     /// The draft with one more axiom.
-    fn take_axiom(self, alloc: Global, sub: Name, sup: Name) -> Result<Draft, AllocError>
-        ensures { (lines : List (List ℕ)) (text : List ℕ) → NextLine lines text (DocLine.SubClass sub sup) self → IfOk result (KeepsDraft (lines ++ text ∷ [])) }
+    fn take_axiom(self, alloc: Global, added: &Axiom) -> Result<Draft, AllocError>
+        ensures { (lines : List (List ℕ)) (text : List ℕ) → NextLine lines text (DocLine.Axiom added.now) self → IfOk result (KeepsDraft (lines ++ text ∷ [])) }
     {
-        let axiom = sub_class(alloc, sub, sup)?;
+        if !self.takes_axioms() {
+            return Ok(self.refused(Reason::Misplaced));
+        }
+        if has_new_head(added.inclusions()) {
+            return Ok(self.refused(Reason::NotBuilt));
+        }
         let Partial {
             ontology,
             facts,
             asked,
             lines,
         } = self;
-        match ontology.extend(alloc, &axiom) {
+        match ontology.extend(alloc, added) {
             Ok(ontology) => {
                 let partial = Partial {
                     ontology,
@@ -212,14 +201,10 @@ impl Partial {
                     asked,
                     lines,
                 };
-                if partial.takes_axioms() {
-                    Ok(partial.goes_on())
-                } else {
-                    Ok(partial.refused(Reason::OutOfOrder))
-                }
+                Ok(partial.goes_on())
             }
             Err(ExtendError::TooMany(_)) => Ok(Draft::Refused {
-                reason: Reason::NotBuilt,
+                reason: Reason::PassesLimit,
                 line: lines.saturating_add(1),
             }),
             Err(ExtendError::NoMemory) => Err(AllocError),
@@ -227,53 +212,89 @@ impl Partial {
     }
 
     /// The draft with one more fact.
-    fn take_fact(mut self, concept: Name, individual: Name) -> Result<Draft, AllocError>
-        ensures { (lines : List (List ℕ)) (text : List ℕ) → NextLine lines text (DocLine.Fact concept individual) self → IfOk result (KeepsDraft (lines ++ text ∷ [])) }
+    fn take_fact(mut self, row: &NamedRow) -> Result<Draft, AllocError>
+        ensures { (lines : List (List ℕ)) (text : List ℕ) → NextLine lines text (DocLine.Fact row.now) self → IfOk result (KeepsDraft (lines ++ text ∷ [])) }
     {
-        let place = self.ontology.concepts().find(concept.bytes());
-        if self.facts.is_full(&individual, place) {
-            return Ok(self.refused(Reason::NotBuilt));
-        }
         if self.asked.is_some() {
-            return Ok(self.refused(Reason::OutOfOrder));
+            return Ok(self.refused(Reason::Misplaced));
         }
-        match place {
-            None => Ok(self.refused(Reason::UnknownConcept)),
+        match place_of(&self.ontology, row) {
+            None => Ok(self.refused(unknown_in(row))),
             Some(place) => {
-                self.facts.add(individual, place)?;
-                Ok(self.goes_on())
+                if self.facts.add(place, row)? {
+                    Ok(self.goes_on())
+                } else {
+                    Ok(self.refused(Reason::TooManyFacts))
+                }
             }
         }
     }
 
     /// The draft with the query.
-    fn take_query(mut self, concept: Name) -> Draft
-        ensures { (lines : List (List ℕ)) (text variable : List ℕ) → NextLine lines text (DocLine.Ask variable concept) self → KeepsDraft (lines ++ text ∷ []) result }
+    fn take_query(mut self, alloc: Global, query: Query) -> Result<Draft, AllocError>
+        ensures { (lines : List (List ℕ)) (text : List ℕ) → NextLine lines text (DocLine.Ask query) self → IfOk result (KeepsDraft (lines ++ text ∷ [])) }
     {
         if self.asked.is_some() {
-            return self.refused(Reason::OutOfOrder);
+            return Ok(self.refused(Reason::Misplaced));
         }
-        match self.ontology.concepts().find(concept.bytes()) {
-            None => self.refused(Reason::UnknownConcept),
-            Some(place) => {
-                self.asked = Some(place);
-                self.goes_on()
+        match shape(alloc, &query, &self.ontology) {
+            Ok(_) => {
+                self.asked = Some(query);
+                Ok(self.goes_on())
             }
+            Err(ShapeError::UnknownConcept(_)) => Ok(self.refused(Reason::UnknownConcept)),
+            Err(ShapeError::UnknownRole(_)) => Ok(self.refused(Reason::UnknownRole)),
+            Err(ShapeError::NoMemory) => Err(AllocError),
+        }
+    }
+
+    /// The draft whose next line is a query that is refused for this reason, where it doesn't stand out of order.
+    fn refuse_query(self, reason: Reason) -> Draft
+        ensures { (lines : List (List ℕ)) (text : List ℕ) → NextText lines text self → IsAskFault text reason → KeepsDraft (lines ++ text ∷ []) result }
+    {
+        if self.asked.is_some() {
+            self.refused(Reason::Misplaced)
+        } else {
+            self.refused(reason)
         }
     }
 }
 
-/// The axiom that whatever is in the one concept is in the other.
-fn sub_class(alloc: Global, sub: Name, sup: Name) -> Result<Axiom, AllocError>
-    ensures { IfOk result (λ a. a ≡ sub_class sub sup) }
+/// Whether an inclusion has a head that isn't built yet.
+fn has_new_head(inclusions: &[NamedInclusion]) -> bool
+    ensures { IsTrue result ↔ HasNewHeadIn inclusions.now }
 {
-    let mut body = Items::new(alloc);
-    body.push(NamedBasic::Concept(sub.copy(alloc)?))?;
-    let head = NamedHead::Basic(NamedBasic::Concept(sup.copy(alloc)?));
-    let mut inclusions = Items::new(alloc);
-    inclusions.push(NamedInclusion { body, head })?;
-    let mut concepts = Items::new(alloc);
-    concepts.push(sub)?;
-    concepts.push(sup)?;
-    Ok(Axiom::new(concepts, Items::new(alloc), inclusions))
+    inclusions.iter().any(|i| is_new(&i.head))
+}
+
+/// Whether the head says that there is a successor, or nothing.
+fn is_new(head: &NamedHead) -> bool
+    ensures { IsTrue result ↔ IsNewHead head.now }
+{
+    match head {
+        NamedHead::Basic(NamedBasic::Concept(_)) => false,
+        NamedHead::Basic(NamedBasic::Exists(_)) => true,
+        NamedHead::Nothing => true,
+    }
+}
+
+/// The place of the row's concept or role, or `None` where no axiom names it.
+fn place_of(ontology: &Ontology, row: &NamedRow) -> Option<u32>
+    ensures place { MatchOption result (LacksName ontology.now row.now) (IsPlaceOf ontology.now row.now) }
+    ensures terminology { IsTerminology ontology.now }
+{
+    match row {
+        NamedRow::Concept { concept, .. } => ontology.concepts().find(concept.bytes()),
+        NamedRow::Role { role, .. } => ontology.roles().find(role.bytes()),
+    }
+}
+
+/// Why a row is refused whose concept or role no axiom names.
+fn unknown_in(row: &NamedRow) -> Reason
+    ensures { result ≡ unknown_of row.now }
+{
+    match row {
+        NamedRow::Concept { .. } => Reason::UnknownConcept,
+        NamedRow::Role { .. } => Reason::UnknownRole,
+    }
 }

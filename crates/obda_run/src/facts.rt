@@ -1,104 +1,89 @@
-//! What the facts of a document say of each individual.
-ghost use Rattle.std.specs.Prelude.{◌≡◌, ◌≢◌, ◌<◌, ◌↔◌, ◌++◌, ◌∷◌, [], Some, IsTrue, OnOk, slice_get, AllPairs, Contains, IsSome, ◌⊎◌, List, ℕ};
-ghost use Rattle.std.specs.Option.{ForSome};
-ghost use Rattle.std.specs.BTreeMap.{get, IsEmpty, btree_map_len};
-ghost use Rattle.dl_base.specs.Ontology.{Terminology};
-ghost use Rattle.dl_base.specs.Rows.{name_cmp};
+//! The facts of a document, by numbers.
+ghost use Rattle.std.specs.Prelude.{◌≡◌, ◌≢◌, ◌≤◌, ◌↔◌, ◌++◌, ◌∷◌, [], IsTrue, IfOk, OnOk, MatchBool, List, AllPairs, length};
+ghost use Rattle.std.specs.BTreeSet.{IsEmpty, btree_set_len};
+ghost use Rattle.dl_base.specs.Axiom.{with_names};
+ghost use Rattle.dl_base.specs.Ontology.{Terminology, IsTerminology};
 ghost use Rattle.dl_base.specs.declared.row.NamedRow.{NamedRow as AnyRow};
-ghost use Rattle.obda_run.specs.Document.{TooManyFacts, fact_of};
-ghost use Rattle.obda_run.specs.Facts.{IsSetOf, KeepsFacts, IsFound};
+ghost use Rattle.obda_run.specs.Document.{TooManyFacts};
+ghost use Rattle.obda_run.specs.Facts.{IsPlaceOf, KeepsFacts, NumbersRow, names_in};
 
-use dl_base::{Basic, BasicSet, Name};
+use dl_base::{NameBook, NamedRow, Row};
 use std::alloc::{AllocError, Global};
-use std::collections::BTreeMap;
+use std::collections::BTreeSet;
 
 /// The most rows of a document.
-const MOST_ROWS: u32 = 1_000_000;
+const MOST_ROWS: usize = 1_000_000;
 
 /// The most individuals of a document.
 const MOST_INDIVIDUALS: usize = 65_536;
 
-/// What each individual holds, in the order of names, and the number of rows.
+/// The individuals in the order in which they were first named, and the rows by their numbers, each once.
 #[derive(Drop)]
 pub struct Facts {
-    pub held: BTreeMap<Name, BasicSet>,
-    pub rows: u32,
+    pub individuals: NameBook,
+    pub rows: BTreeSet<Row>,
 }
 
 impl Facts {
     /// No facts. It takes no memory.
     pub fn new(alloc: Global) -> Facts
-        ensures held { IsEmpty result.held }
-        ensures rows { result.rows ≡ 0 }
+        ensures individuals { result.individuals ≡ [] }
+        ensures rows { IsEmpty result.rows }
     {
         Facts {
-            held: BTreeMap::new(alloc),
-            rows: 0,
+            individuals: NameBook::new(alloc),
+            rows: BTreeSet::new(alloc),
         }
     }
 
     /// Whether there is no fact.
     pub fn is_empty(&self) -> bool
-        ensures { IsTrue result ↔ (self.now.rows ≡ 0) }
+        ensures { IsTrue result ↔ (btree_set_len self.now.rows ≡ 0) }
     {
-        self.rows == 0
+        self.rows.is_empty()
     }
 
-    /// What the individual holds: nothing where it is new.
-    fn set_of(&self, individual: &Name) -> BasicSet
-        ensures { IsSetOf (get name_cmp self.now.held individual.now) result }
+    /// Adds a row, whose concept or role has this place, and answers whether the facts are within the limits. Else they
+    /// are of no use, and neither are they after `AllocError`. A row counts once however often it is added.
+    pub fn add(&mut self, place: u32, row: &NamedRow) -> Result<bool, AllocError>
+        ensures { (o : Terminology) (asserted : List AnyRow) → IsTerminology o → KeepsFacts o asserted self.old → IsPlaceOf o row.now place
+            → IfOk result (λ fits. MatchBool fits (KeepsFacts o (asserted ++ row.now ∷ []) self.new) (TooManyFacts (asserted ++ row.now ∷ []))) }
     {
-        match self.held.get(individual) {
-            Some(set) => *set,
-            None => BasicSet::new(),
+        if !self.are_within() {
+            return Ok(false);
         }
+        let row = self.numbered(place, row)?;
+        self.rows.insert(row)?;
+        Ok(self.are_within())
     }
 
-    /// Whether the fact, of a concept at this place or of an unknown one, is there already.
-    fn has(&self, individual: &Name, concept: Option<u32>) -> bool
-        requires { ForSome concept (λ c. c < 512) }
-        ensures { (o : Terminology) (asserted : List AnyRow) (name : List ℕ) → KeepsFacts o asserted self.now → IsFound o.concepts name concept
-            → IsTrue result ↔ Contains asserted (fact_of name individual.now) }
+    /// Whether the facts are within the limits.
+    fn are_within(&self) -> bool
+        ensures within { IsTrue result ↔ ((btree_set_len self.now.rows ≤ 1000000) × (length self.now.individuals ≤ 65536)) }
+        ensures distinct { AllPairs (λ x y. x ≢ y) self.now.individuals }
     {
-        match concept {
-            Some(place) => self.set_of(individual).has(Basic::Concept(place)),
-            None => false,
+        let rows = self.rows.len();
+        let individuals = self.individuals.len();
+        rows <= MOST_ROWS && individuals <= MOST_INDIVIDUALS
+    }
+
+    /// The row by numbers, of which new individuals get the next ones.
+    fn numbered(&mut self, place: u32, row: &NamedRow) -> Result<Row, AllocError>
+        requires { length self.old.individuals ≤ 65536 }
+        ensures rows { self.new.rows ≡ self.old.rows }
+        ensures names { OnOk result (self.new.individuals ≡ with_names self.old.individuals (names_in row.now)) }
+        ensures numbers { (o : Terminology) → IsPlaceOf o row.now place → IfOk result (NumbersRow o self.new.individuals row.now) }
+    {
+        match row {
+            NamedRow::Concept { individual, .. } => Ok(Row::Concept {
+                concept: place,
+                individual: self.individuals.intern(individual)?,
+            }),
+            NamedRow::Role { from, to, .. } => Ok(Row::Role {
+                role: place,
+                from: self.individuals.intern(from)?,
+                to: self.individuals.intern(to)?,
+            }),
         }
-    }
-
-    /// Whether there is room for the individual, or it is there already.
-    fn has_place(&self, individual: &Name) -> bool
-        ensures { IsTrue result ↔ (IsSome (get name_cmp self.now.held individual.now) ⊎ (btree_map_len self.now.held < 65536)) }
-    {
-        self.held.contains_key(individual) || self.held.len() < MOST_INDIVIDUALS
-    }
-
-    /// Whether one more fact, of a concept at this place or of an unknown one, passes a limit.
-    pub fn is_full(&self, individual: &Name, concept: Option<u32>) -> bool
-        requires { ForSome concept (λ c. c < 512) }
-        ensures { (o : Terminology) (asserted : List AnyRow) (name : List ℕ) → KeepsFacts o asserted self.now → IsFound o.concepts name concept
-            → IsTrue result ↔ TooManyFacts (asserted ++ fact_of name individual.now ∷ []) }
-    {
-        if !self.has_place(individual) {
-            return true;
-        }
-        self.rows >= MOST_ROWS && !self.has(individual, concept)
-    }
-
-    /// Adds a fact, which counts once however often it is added.
-    pub fn add(&mut self, individual: Name, concept: u32) -> Result<(), AllocError>
-        requires { concept < 512 }
-        ensures { OnOk result ((o : Terminology) (asserted : List AnyRow) (name : List ℕ) → AllPairs (λ x y. x ≢ y) o.concepts
-            → KeepsFacts o asserted self.old → slice_get o.concepts concept ≡ Some name → (TooManyFacts (asserted ++ fact_of name individual ∷ []) → ⊥)
-            → KeepsFacts o (asserted ++ fact_of name individual ∷ []) self.new) }
-    {
-        let mut set = self.set_of(&individual);
-        if set.has(Basic::Concept(concept)) {
-            return Ok(());
-        }
-        set.add(Basic::Concept(concept));
-        self.held.insert(individual, set)?;
-        self.rows = self.rows.saturating_add(1);
-        Ok(())
     }
 }

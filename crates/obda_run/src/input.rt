@@ -2,6 +2,7 @@
 ghost use Rattle.std.specs.Prelude.{◌≡◌, ◌<◌, ◌≤◌, ◌+◌, ◌^◌, ◌++◌, ℕ, List, [], IfOk, IfErr, IsErrOf, length, take};
 ghost use Rattle.std.specs.Option.{ForSome};
 ghost use Rattle.host_io.specs.Causes.{Rose};
+ghost use Rattle.obda_run.specs.Completed.{IsSound};
 ghost use Rattle.obda_run.specs.Drafting.{KeepsDraft};
 ghost use Rattle.obda_run.specs.Run.{HasStopped, IsEarly, IsFinal, IsReading, IsRead};
 
@@ -22,6 +23,7 @@ pub fn read_document<S: Source>(alloc: Global, source: &mut S) -> Result<Documen
     ensures later { S.read_faults source.old ≤ S.read_faults source.new }
     ensures fault { IsErrOf result Status.ReadFault → Rose (S.read_faults source.old) (S.read_faults source.new) }
     ensures early { IfErr result IsEarly }
+    ensures sound { IfOk result IsSound }
     ensures read { ForSome (S.left source.old) (λ input. HasStopped result input (S.left source.new)) }
 {
     let Ok(draft) = Draft::new(alloc) else {
@@ -49,6 +51,7 @@ fn read_lines<S: Source>(
     ensures later { S.read_faults source.old ≤ S.read_faults source.new }
     ensures fault { IsErrOf result Status.ReadFault → Rose (S.read_faults source.old) (S.read_faults source.new) }
     ensures early { IfErr result IsEarly }
+    ensures sound { IfOk result IsSound }
     ensures read { ForSome (S.left source.old) (λ input. HasStopped result input (S.left source.new)) }
 {
     let mut taken = 0u64;

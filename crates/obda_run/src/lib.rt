@@ -3,11 +3,12 @@
 
 mod answers;
 mod command;
+mod completed;
 mod document;
 mod facts;
-mod forms;
 mod input;
 mod lines;
+mod reason;
 mod reply;
 mod status;
 #[cfg(test)]

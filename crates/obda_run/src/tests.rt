@@ -6,7 +6,7 @@ use std::io::{self, Read};
 use std::test::Fail;
 
 // A document, how the run ends, and what is printed.
-const REPLIES: [(&[u8], Status, &[u8]); 26] = [
+const REPLIES: [(&[u8], Status, &[u8]); 46] = [
     (
         b"axiom SubClassOf(Prof Staff)\nfact Prof ann\nask q(?x) :- Staff(?x)\n",
         Status::Done,
@@ -38,7 +38,76 @@ const REPLIES: [(&[u8], Status, &[u8]); 26] = [
         Status::Done,
         b"answer a\nanswer aa\nanswer b\nend 3\n",
     ),
-    // No axiom names the concept.
+    // Domain, range and a body of two, from both ends of a role.
+    (
+        b"axiom Domain(r A)\naxiom Range(r B)\naxiom SubClassOf(And(A B) C)\nfact r a b\nfact r b a\nask q(?x,?y) :- r(?x,?y), C(?y)\n",
+        Status::Done,
+        b"answer a b\nanswer b a\nend 2\n",
+    ),
+    (
+        b"axiom Domain(r A)\naxiom Range(r B)\naxiom SubClassOf(And(A B) C)\nfact r a b\nask q(?x) :- C(?x)\n",
+        Status::Done,
+        b"end 0\n",
+    ),
+    (
+        b"axiom Range(Inv(r) A)\nfact r a b\nask q(?x) :- A(?x)\n",
+        Status::Done,
+        b"answer a\nend 1\n",
+    ),
+    (
+        b"axiom Equivalent(A And(B C))\nfact B x\nfact C x\nfact B y\nask q(?v) :- A(?v)\n",
+        Status::Done,
+        b"answer x\nend 1\n",
+    ),
+    // A path, a cycle back, a loop, two parts, and names in a query.
+    (
+        b"axiom Property(r)\nfact r a b\nfact r b c\nask q(?x,?z) :- r(?x,?y), r(?y,?z)\n",
+        Status::Done,
+        b"answer a c\nend 1\n",
+    ),
+    (
+        b"axiom Property(r)\nfact r a b\nfact r b b\nask q(?x) :- r(?x,?x)\n",
+        Status::Done,
+        b"answer b\nend 1\n",
+    ),
+    (
+        b"axiom Property(r)\naxiom Class(A)\nfact r a b\nfact A c\nask q(?y,?x) :- r(?x,?z), A(?y)\n",
+        Status::Done,
+        b"answer c a\nend 1\n",
+    ),
+    (
+        b"axiom Property(r)\nfact r a b\nfact r c d\nask q(?y) :- r(a,?y)\n",
+        Status::Done,
+        b"answer b\nend 1\n",
+    ),
+    (
+        b"axiom Property(r)\nfact r a b\nask q(?x) :- r(?x,nobody)\n",
+        Status::Done,
+        b"end 0\n",
+    ),
+    // No answer variable, and one twice.
+    (
+        b"axiom Class(A)\nfact A x\nfact A y\nask q() :- A(?x)\n",
+        Status::Done,
+        b"answer\nend 1\n",
+    ),
+    (
+        b"axiom Class(A)\nask q() :- A(?x)\n",
+        Status::Done,
+        b"end 0\n",
+    ),
+    (
+        b"axiom Class(A)\nfact A x\nask q(?x,?x) :- A(?x)\n",
+        Status::Done,
+        b"answer x x\nend 1\n",
+    ),
+    // One name for a concept, a role and an individual.
+    (
+        b"axiom Domain(a c)\naxiom Class(a)\nfact a a\nfact a a a\nask q(?a) :- a(?a), a(?a,?a), c(?a)\n",
+        Status::Done,
+        b"answer a\nend 1\n",
+    ),
+    // No axiom names the concept or the role.
     (
         b"axiom SubClassOf(A B)\nfact C y\n",
         Status::Refused { code: 6, line: 2 },
@@ -49,21 +118,53 @@ const REPLIES: [(&[u8], Status, &[u8]); 26] = [
         Status::Refused { code: 6, line: 2 },
         b"",
     ),
-    // Forms that aren't built, and lines that have none.
     (
-        b"axiom Class(A)\n",
+        b"axiom Class(A)\nfact r x y\n",
+        Status::Refused { code: 7, line: 2 },
+        b"",
+    ),
+    (
+        b"axiom Class(A)\naxiom Property(r)\nfact A x\nask q(?x) :- A(?x), s(?x,?y), B(?x)\n",
+        Status::Refused { code: 7, line: 4 },
+        b"",
+    ),
+    // Heads that aren't built, and lines that have no form.
+    (
+        b"axiom Class(A)\naxiom SubClassOf(A Some(r))\n",
+        Status::Refused { code: 99, line: 2 },
+        b"",
+    ),
+    (
+        b"axiom SubClassOf(A nothing)\n",
         Status::Refused { code: 99, line: 1 },
         b"",
     ),
-    (b"fact A", Status::Refused { code: 99, line: 1 }, b""),
     (
-        b"\n\nnonsense\n",
-        Status::Refused { code: 99, line: 3 },
+        b"axiom Disjoint(A B)\n",
+        Status::Refused { code: 99, line: 1 },
         b"",
     ),
     (
-        b"axiom SubClassOf(A B)\nask q(?x) :- A(?y)\n",
-        Status::Refused { code: 99, line: 2 },
+        b"axiom Class(A)\nfact A x\naxiom Disjoint(A B)\n",
+        Status::Refused { code: 1, line: 3 },
+        b"",
+    ),
+    (b"fact A", Status::Refused { code: 1, line: 1 }, b""),
+    (b"\n\nnonsense\n", Status::Refused { code: 1, line: 3 }, b""),
+    // A query that is unsafe, or too large, or both.
+    (
+        b"axiom SubClassOf(Prof Staff)\nfact Prof ann\nask q(?y) :- Staff(?x)\n",
+        Status::Refused { code: 17, line: 3 },
+        b"",
+    ),
+    (
+        b"axiom SubClassOf(A B)\nask q(?y) :- A(?x),A(?x),A(?x),A(?x),A(?x),A(?x),A(?x),A(?x),A(?x),A(?x),A(?x),A(?x),A(?x),A(?x),A(?x),A(?x),A(?x),A(?x),A(?x),A(?x),A(?x),A(?x),A(?x),A(?x),A(?x)\n",
+        Status::Refused { code: 16, line: 2 },
+        b"",
+    ),
+    (
+        b"axiom SubClassOf(A B)\nask q(?x) :- A(?x)\nask q(?y) :- A(?x)\n",
+        Status::Refused { code: 1, line: 3 },
         b"",
     ),
     // Out of order.
@@ -82,7 +183,7 @@ const REPLIES: [(&[u8], Status, &[u8]); 26] = [
         Status::Refused { code: 1, line: 3 },
         b"",
     ),
-    // The first line is named, and of its codes the first: 99 before 1 before 6.
+    // The first line is named, and of its codes the first.
     (
         b"axiom SubClassOf(A B)\nfact C x\nnonsense\n",
         Status::Refused { code: 6, line: 2 },
@@ -91,11 +192,6 @@ const REPLIES: [(&[u8], Status, &[u8]); 26] = [
     (
         b"axiom SubClassOf(A B)\nask q(?x) :- A(?x)\nfact C x\n",
         Status::Refused { code: 1, line: 3 },
-        b"",
-    ),
-    (
-        b"axiom SubClassOf(A B)\nask q(?x) :- A(?x)\nfact C\n",
-        Status::Refused { code: 99, line: 3 },
         b"",
     ),
     // Lines that end with a carriage return, and a last line without its end.
@@ -107,7 +203,7 @@ const REPLIES: [(&[u8], Status, &[u8]); 26] = [
     // A carriage return elsewhere.
     (
         b"axiom SubClassOf(A B)\nfact A\rx\n",
-        Status::Refused { code: 99, line: 2 },
+        Status::Refused { code: 1, line: 2 },
         b"",
     ),
     // Blanks, tabs and comments.
@@ -119,7 +215,7 @@ const REPLIES: [(&[u8], Status, &[u8]); 26] = [
     // Names in angle brackets, with bytes past ASCII.
     (
         b"axiom SubClassOf(<A \xc3\xa4> B)\nfact <A \xc3\xa4> <\xc3\xbc>\nfact B z\nask q(?x) :- B(?x)\n",
-        Status::Refused { code: 99, line: 1 },
+        Status::Refused { code: 1, line: 1 },
         b"",
     ),
     (
@@ -132,6 +228,12 @@ const REPLIES: [(&[u8], Status, &[u8]); 26] = [
         b"axiom SubClassOf(A B)\nfact <A> x\n",
         Status::Refused { code: 6, line: 2 },
         b"",
+    ),
+    // Behind the query stand only blank lines and comments.
+    (
+        b"axiom Class(A)\nask q() :- A(?x)\n\n# the end\n \n",
+        Status::Done,
+        b"end 0\n",
     ),
 ];
 
@@ -303,8 +405,8 @@ fn a_line_has_4096_bytes_at_most(rt: HostRuntime) -> Result<(), Fail> {
     let rows = [
         (4095, Status::Done),
         (4096, Status::Done),
-        (4097, Status::Refused { code: 99, line: 1 }),
-        (70_000, Status::Refused { code: 99, line: 1 }),
+        (4097, Status::Refused { code: 2, line: 1 }),
+        (70_000, Status::Refused { code: 2, line: 1 }),
     ];
     for (length, want) in rows {
         let mut host = MemHost::new(alloc, Calls::new(alloc));
@@ -339,9 +441,74 @@ fn individuals_are_65536_at_most(rt: HostRuntime) -> Result<(), Fail> {
     assert!(rt; host.printed().items().ends_with(b"end 65536\n"));
     let document = individuals(alloc, 65_537)?;
     let refused = Status::Refused {
-        code: 99,
+        code: 11,
         line: 65_538,
     };
+    assert_eq!(rt;
+        answer(alloc, document, Calls::new(alloc), &mut host)?,
+        refused
+    );
+    Ok(())
+}
+
+// A document with so many rows of a role.
+fn edges(alloc: Global, count: u32) -> Result<Bytes, Fail> {
+    let mut text = b"axiom Property(r)\n".to_vec(alloc)?;
+    for i in 0..count {
+        text.extend_from_slice(format!(in alloc;
+            "fact r x{} y{}\n",
+            i % 1000,
+            i / 1000
+        )?.as_bytes())?;
+    }
+    text.extend_from_slice(b"fact r x0 y0\nask q(?x) :- r(x7,?x), r(x8,?x)\n")?;
+    Ok(Bytes::from_slice(alloc, &text)?)
+}
+
+#[test]
+fn rows_are_1000000_at_most(rt: HostRuntime) -> Result<(), Fail> {
+    let alloc = rt.alloc();
+    let mut host = MemHost::new(alloc, Calls::new(alloc));
+    let document = edges(alloc, 1_000_000)?;
+    assert_eq!(rt;
+        answer(alloc, document, Calls::new(alloc), &mut host)?,
+        Status::Done
+    );
+    assert!(rt; host.printed().items().ends_with(b"end 1000\n"));
+    let document = edges(alloc, 1_000_001)?;
+    let refused = Status::Refused {
+        code: 11,
+        line: 1_000_002,
+    };
+    assert_eq!(rt;
+        answer(alloc, document, Calls::new(alloc), &mut host)?,
+        refused
+    );
+    Ok(())
+}
+
+// A document of so many axioms, each with a concept of its own.
+fn concepts(alloc: Global, count: u32) -> Result<Bytes, Fail> {
+    let mut text = b"# concepts\n".to_vec(alloc)?;
+    for i in 0..count {
+        text.extend_from_slice(format!(in alloc; "axiom Class(C{i})\n")?.as_bytes())?;
+    }
+    text.extend_from_slice(b"fact C511 x\nask q(?x) :- C511(?x)\n")?;
+    Ok(Bytes::from_slice(alloc, &text)?)
+}
+
+#[test]
+fn concepts_are_512_at_most(rt: HostRuntime) -> Result<(), Fail> {
+    let alloc = rt.alloc();
+    let mut host = MemHost::new(alloc, Calls::new(alloc));
+    let document = concepts(alloc, 512)?;
+    assert_eq!(rt;
+        answer(alloc, document, Calls::new(alloc), &mut host)?,
+        Status::Done
+    );
+    assert_eq!(rt; host.printed().items(), b"answer x\nend 1\n".as_slice());
+    let document = concepts(alloc, 513)?;
+    let refused = Status::Refused { code: 5, line: 514 };
     assert_eq!(rt;
         answer(alloc, document, Calls::new(alloc), &mut host)?,
         refused

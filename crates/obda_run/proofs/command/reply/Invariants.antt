@@ -1,4 +1,4 @@
 use Rattle.obda_run.proofs.command.reply.Given as goal
 
-abbrev pub ghosts-answers : goal.ghosts-answers
-ghosts-answers g a = record { name = a.blank.name; parts = a.blank.parts }
+abbrev pub ghosts-certain_answers : goal.ghosts-certain_answers
+ghosts-certain_answers g a = record { name = a.blank.name; parts = a.blank.parts }

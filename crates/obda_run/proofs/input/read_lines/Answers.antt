@@ -1,8 +1,9 @@
-use Rattle.std.proofs.Common.{◌≡◌, ◌<◌, ◌+◌, ◌++◌, ℕ, List, [], length, take, drop, arith, ap, ◌∙◌, subst}
+use Rattle.std.proofs.Common.{◌≡◌, ◌<◌, ◌+◌, ◌++◌, ℕ, List, [], length, take, drop, arith, ap, ◌∙◌, subst, length-append}
 use Rattle.std.proofs.lemmas.List.{take-append-le}
 use Rattle.obda_run.specs.Run.{IsReading}
 use Rattle.obda_run.specs.declared.status.Status.TheVariants as status
 use Rattle.obda_run.proofs.InputLemmas.{Taken, stopped, stopped_behind, taken_more, ended, stops_final, within_room, length-piece, length-filled}
+use Rattle.obda_run.proofs.SoundLemmas.{read_sound}
 use Rattle.obda_run.proofs.input.read_lines.Goals as goal
 
 pub returns-in_default-clause-read : goal.returns-in_default-clause-read
@@ -54,5 +55,17 @@ pieces-preserved g c =
           (λ read is r. subst (λ (l : List ℕ). IsReading (read ++ l) c.take_piece.new.line c.in-Ok-take_piece.next) same
           (c.in-Ok-take_piece.ensures read (omega (arith, is, count, room, fits, ap length same)) r)) in
           subst (λ (n : ℕ). Taken input (c.pieces.taken + n) (g.S.Source.left c.read.new.self) c.take_piece.new.line c.in-Ok-take_piece.next) count more;
+      kept =
+          let k = c.pieces.invariant.kept in (
+            k.0 ++ piece,
+            (omega (arith, k.1, length-append k.0 piece, count)),
+            subst (λ (l : List ℕ). IsReading (k.0 ++ l) c.take_piece.new.line c.in-Ok-take_piece.next) same
+                (c.in-Ok-take_piece.ensures k.0 (omega (arith, k.1, count, room, fits, ap length same)) k.2),
+          );
       later = omega (arith, c.pieces.invariant.later, c.in-Ok.ensures.cause.later);
     }
+
+pub returns-then-count-eq0-clause-sound : goal.returns-then-count-eq0-clause-sound
+returns-then-count-eq0-clause-sound g c =
+    let k = c.pieces.invariant.kept in
+    read_sound c.finish.result k.0 (c.finish.ensures.read k.0 (omega (arith, k.1, c.pieces.invariant.taken)) k.2)

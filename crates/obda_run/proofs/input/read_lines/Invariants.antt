@@ -1,4 +1,5 @@
 use Rattle.std.proofs.Common.{◌≡◌, ◌≤◌, ◌-◌, List, ℕ, length, Some}
+use Rattle.obda_run.specs.Run.{IsReading}
 use Rattle.obda_run.proofs.InputLemmas.{Taken}
 use Rattle.obda_run.proofs.input.read_lines.Given as goal
 
@@ -9,6 +10,7 @@ invariant-pieces g l =
       taken : l.taken ≤ 67108864;
       room : length l.buffer ≡ 65536;
       reading : (input : List ℕ) → s.left l.fn.source ≡ Some input → Taken input l.taken (s.left l.source) l.line l.draft;
+      kept : (read : List ℕ) × (length read ≡ l.taken) × IsReading read l.line l.draft;
       later : s.read_faults l.fn.source ≤ s.read_faults l.source;
     }
 

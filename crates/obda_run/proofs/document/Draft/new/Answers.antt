@@ -1,4 +1,5 @@
-use Rattle.obda_run.proofs.OntologyLemmas.{ontology_none, facts_none}
+use Rattle.obda_run.proofs.OntologyLemmas.{ontology_none}
+use Rattle.obda_run.proofs.FactLemmas.{facts_none}
 use Rattle.obda_run.proofs.LineTaking.{kept_none}
 use Rattle.obda_run.proofs.document.Draft.new.Goals as goal
 
@@ -6,4 +7,4 @@ pub returns : goal.returns
 returns c =
     let o = c.in_ok-ontology.ontology in
     let facts = c.new-2.result in
-    kept_none o facts (ontology_none o c.in_ok-ontology.ensures) (facts_none o facts c.new-2.ensures.held c.new-2.ensures.rows)
+    kept_none o facts (ontology_none o c.in_ok-ontology.ensures) (facts_none o facts c.new-2.ensures.individuals c.new-2.ensures.rows)

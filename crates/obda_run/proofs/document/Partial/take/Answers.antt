@@ -1,13 +1,10 @@
 use Rattle.std.proofs.Common.{[], ◌∷◌, ◌++◌, sym, subst}
+use Rattle.script_reader.specs.declared.doc_line.DocLine.{DocLine}
 use Rattle.obda_run.specs.Drafting.{KeepsDraft, NextLine}
-use Rattle.obda_run.specs.declared.forms.DocLine.{DocLine}
 use Rattle.obda_run.proofs.LineTaking.{blank_more}
 use Rattle.obda_run.proofs.document.Partial.take.Goals as goal
 
 pub returns-in-Blank : goal.returns-in-Blank
 returns-in-Blank c = λ lines text next.
     let blank = subst (λ (d : DocLine). NextLine lines text d c.args.self) c.in-Blank.is next in
-    subst (KeepsDraft (lines ++ text ∷ [])) (sym c.goes_on.ensures) (blank_more lines text c.args.self blank)
-
-pub returns : goal.returns
-returns c = λ lines text next. c.take_query.ensures lines text _ (subst (λ (d : DocLine). NextLine lines text d c.args.self) c.in-Ask.is next)
+    subst (KeepsDraft (lines ++ text ∷ [])) (sym c.goes_on.ensures) (blank_more lines text c.args.self blank.next blank.says)

@@ -1,21 +1,30 @@
-use Rattle.std.proofs.Common.{[], ◌∷◌, ◌++◌, sym, ◌∙◌, subst}
+use Rattle.std.proofs.Common.{[], ◌∷◌, ◌++◌, sym, subst, ◌∙◌}
+use Rattle.query_shape.specs.ShapeFault.{IsShapeFault}
+use Rattle.query_shape.specs.declared.numbering.ShapeError.{ShapeError}
 use Rattle.obda_run.specs.Drafting.{KeepsDraft}
-use Rattle.obda_run.proofs.LineTaking.{found_is, found_at, query_late, query_unknown, query_more}
+use Rattle.obda_run.proofs.QueryLemmas.{shape_known}
+use Rattle.obda_run.proofs.LineTaking.{query_late, query_concept, query_role, query_more}
 use Rattle.obda_run.proofs.document.Partial.take_query.Goals as goal
 
 pub returns-then-is_some : goal.returns-then-is_some
-returns-then-is_some c = λ lines text variable next.
-    subst (KeepsDraft (lines ++ text ∷ [])) (sym c.refused.ensures) (query_late lines text variable c.args.concept c.args.self next (sym c.is_some.ensures ∙ c.if-is_some.true))
+returns-then-is_some c = λ lines text next.
+    subst (KeepsDraft (lines ++ text ∷ [])) (sym c.refused.ensures)
+    (query_late lines text c.args.self next.next c.args.query next.says (sym c.is_some.ensures ∙ c.if-is_some.true))
 
-pub returns-in-None : goal.returns-in-None
-returns-in-None c = λ lines text variable next.
-    let found = found_is _ _ _ _ c.find.result c.concepts.ensures.names c.bytes.ensures.bytes c.find.ensures in
-    subst (KeepsDraft (lines ++ text ∷ [])) (sym c.refused-in-None.ensures)
-    (query_unknown lines text variable c.args.concept c.args.self next (sym c.is_some.ensures ∙ c.if-is_some.false) c.find.result found c.in-None.is)
-
-pub returns : goal.returns
-returns c = λ lines text variable next.
-    let found = found_is _ _ _ _ c.find.result c.concepts.ensures.names c.bytes.ensures.bytes c.find.ensures in
+pub returns-in-Ok : goal.returns-in-Ok
+returns-in-Ok c = λ lines text next.
     subst (KeepsDraft (lines ++ text ∷ [])) (sym c.goes_on.ensures)
-    (query_more lines text variable c.args.concept c.args.self next (sym c.is_some.ensures ∙ c.if-is_some.false) c.in-Some.place
-    (found_at c.args.self.ontology c.args.concept c.find.result c.in-Some.place found c.in-Some.is))
+    (query_more lines text c.args.self next.next c.args.query next.says (sym c.is_some.ensures ∙ c.if-is_some.false) next.fit
+    (shape_known c.args.self.ontology c.args.query c.in-Ok.field-0 c.in-Ok.ensures.ok))
+
+pub returns-in-Err-UnknownConcept : goal.returns-in-Err-UnknownConcept
+returns-in-Err-UnknownConcept c = λ lines text next.
+    subst (KeepsDraft (lines ++ text ∷ [])) (sym c.refused-in-Err-UnknownConcept.ensures)
+    (query_concept lines text c.args.self next.next c.args.query next.says (sym c.is_some.ensures ∙ c.if-is_some.false) next.fit c.in-Err-UnknownConcept.field-0-0
+    (subst (λ (e : ShapeError). IsShapeFault c.args.self.ontology c.args.query e) c.in-Err-UnknownConcept.field-0-is c.in-Err-UnknownConcept.ensures.err))
+
+pub returns-in-Err-UnknownRole : goal.returns-in-Err-UnknownRole
+returns-in-Err-UnknownRole c = λ lines text next.
+    subst (KeepsDraft (lines ++ text ∷ [])) (sym c.refused-in-Err-UnknownRole.ensures)
+    (query_role lines text c.args.self next.next c.args.query next.says (sym c.is_some.ensures ∙ c.if-is_some.false) next.fit c.in-Err-UnknownRole.field-0-0
+    (subst (λ (e : ShapeError). IsShapeFault c.args.self.ontology c.args.query e) c.in-Err-UnknownRole.field-0-is c.in-Err-UnknownRole.ensures.err))

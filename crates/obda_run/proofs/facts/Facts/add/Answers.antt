@@ -1,19 +1,10 @@
-use Rattle.std.proofs.Common.{◌≡◌, ◌+◌, ◌∙◌, ap, true, if◌then◌else◌}
-use Rattle.std.specs.Prelude.{is_some}
-use Rattle.std.specs.BTreeMap.{btree_map_len}
-use Rattle.obda_run.proofs.FactLemmas.{has_fact, kept_again, kept_more}
+use Rattle.std.proofs.Common.{ap}
+use Rattle.obda_run.proofs.FactLemmas.{kept_or_too_many, tracks, tracks_more, keys_distinct, key_adds}
 use Rattle.obda_run.proofs.facts.Facts.add.Goals as goal
 
-pub returns-then-has : goal.returns-then-has
-returns-then-has c = λ o asserted name distinct k at fits.
-    kept_again o asserted c.args.self.now k name c.args.individual
-    ((has_fact o asserted c.args.self.now k name c.args.individual c.set_of-set.result c.args.concept c.set_of-set.ensures at).0 (c.has.ensures.0 c.if-has.true))
-
 pub returns : goal.returns
-returns c = λ o asserted name distinct k at fits.
-    kept_more o asserted c.args.self.now k name c.args.individual c.args.concept distinct at (record { held = c.insert.new.self; rows = c.saturating_add-self.result })
-    c.set_of-set.result c.add.new.self c.set_of-set.ensures
-    (λ has. let e : c.has.result ≡ true = c.has.ensures.1 has in let f = c.if-has.false in absurd cc)
-    c.add.ensures c.in_ok-insert.ensures.updates c.in_ok-insert.ensures.ordered
-    (c.in_ok-insert.ensures.len ∙ ap (λ found. btree_map_len c.args.self.now.held + (if is_some found then 0 else 1)) c.in_ok-insert.ensures.old)
-    c.saturating_add-self.ensures fits
+returns c = λ o asserted is keeps place.
+    let old = tracks o asserted c.args.self.now keeps in
+    let adds = key_adds c.in_ok-row.row _ _ _ (ap (λ s. s.keys) c.in_ok-row.ensures.rows) c.in_ok-insert.ensures.keys in
+    let more = tracks_more o asserted _ _ old c.args.row.now _ c.in_ok-row.row _ c.in_ok-row.ensures.names c.are_within-2.ensures.distinct (c.in_ok-row.ensures.numbers o place) adds in
+    kept_or_too_many o _ _ c.are_within-2.result is more (keys_distinct _ c.insert.ensures.ordered) c.are_within-2.ensures.within
