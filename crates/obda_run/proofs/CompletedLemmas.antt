@@ -1,9 +1,9 @@
 -- Laws of the completed tables of a document: no role is live, so their rows are those of roles among individuals, and
 -- what is derived at each individual.
-use Rattle.std.proofs.Common.{◌≡◌, ◌≢◌, ℕ, ◌+◌, ◌<◌, ◌⊎◌, ◌↔◌, inl, inr, Bool, true, false, List, [], ◌∷◌, ◌++◌, length, get_or, set, replicate, slice_get, Contains, All, Some, Result, Ok, Err, IfOk, refl, sym, ◌∙◌, ap, subst, arith, append_assoc}
+use Rattle.std.proofs.Common.{◌≡◌, ◌≢◌, ℕ, ◌+◌, ◌<◌, ◌⊎◌, ◌↔◌, inl, inr, Bool, true, false, List, [], ◌∷◌, ◌++◌, length, get_or, set, replicate, slice_get, Contains, Some, Result, Ok, Err, IfOk, refl, sym, ◌∙◌, ap, subst, arith, append_assoc}
 use Rattle.std.proofs.lemmas.Bool.{cases_order}
 use Rattle.std.proofs.lemmas.List.{get_or-set_same, get_or-set_other, length-set, append-nil, get_or-replicate, length-replicate}
-use Rattle.std.proofs.lemmas.List.Elements.{All-contains, Contains-append_left, Contains-append_right, Contains-push}
+use Rattle.std.proofs.lemmas.List.Elements.{All-contains, Contains-append_left, Contains-push}
 use Rattle.std.proofs.lemmas.Option.{slice_get_within, slice_get-get_or, get_or_from_slice_get}
 use Rattle.dl_base.specs.Ontology.{Terminology, IsTerminology, IsPlacedHead, IsWithin}
 use Rattle.dl_base.specs.Completion.{Node, Individual, WitnessOf, Represents, IsNode, DerivedAtNode, RoleLeads, CompletesConcept, CompletesRole, IsCompletedRow, AreCompleted}
@@ -21,7 +21,6 @@ use Rattle.dl_base.specs.declared.row.NamedRow.TheVariants as named
 use Rattle.dl_base.specs.declared.row.Row.{Row}
 use Rattle.dl_base.specs.declared.row.Row.TheVariants as row
 use Rattle.dl_base.proofs.DerivationLemmas.{monotone}
-use Rattle.dl_base.proofs.RisingLemmas.{contains_first}
 use Rattle.dl_base.proofs.RowLemmas.{contains_cut, individual_through}
 use Rattle.horn_closure.specs.Closure.{IsClosure, Outcome}
 use Rattle.plain_tables.specs.Kept.{table_row}
@@ -33,17 +32,12 @@ use Rattle.obda_run.specs.Completed.{turned, HoldsBy, AreHeldSets, IsOfRole, IsT
 use Rattle.obda_run.specs.Facts.{KeepsFacts, NumbersRow}
 use Rattle.obda_run.specs.declared.facts.Facts.{Facts}
 
--- what holds anyway holds where a call succeeds
+-- what holds anyway holds where a call succeeds too
 pub ok_anyway : {X E : Type 0} (P : Type 0) (r : Result X E) → P → IfOk r (λ x. P)
 ok_anyway P (Ok x) p = p
 ok_anyway P (Err e) p = tt
 
 -- ---- rows gone through
-
--- what holds of all holds of the next
-pub next_row : (P : Row → Type 0) (all left done : List Row) (x : Row) → done ++ x ∷ left ≡ all → All P all → P x
-next_row P all left done x whole each =
-    All-contains P all x each (subst (λ (rows : List Row). Contains rows x) whole (Contains-append_right done (x ∷ left) x (contains_first x left)))
 
 -- one more was gone through
 one_more : (all left done : List Row) (x : Row) → done ++ x ∷ left ≡ all → (done ++ x ∷ []) ++ left ≡ all
@@ -226,22 +220,13 @@ held_more all left x count sets new far adds = record {
   held = adds far.done count far.held;
 }
 
-pub held_all : (all : List Row) (count : ℕ) (sets : List (List ℕ)) → HeldSoFar all [] count sets → AreHeldSets all count sets
-held_all all count sets far = subst (λ (rows : List Row). AreHeldSets rows count sets) (all_done all far.done far.whole) far.held
-
-pub next_within : (P : Row → Type 0) (all left : List Row) (x : Row) (count : ℕ) (sets : List (List ℕ)) → HeldSoFar all (x ∷ left) count sets → All P all → P x
-next_within P all left x count sets far each = next_row P all left far.done x far.whole each
-
 -- ---- rows of roles
 
--- the same of the rows of roles
+-- behind the rows gone through are those that are left, and the list has the rows of roles of the first
 pub record RolesSoFar (all left found : List Row) : Type 0 where
   pub done : List Row
   pub whole : done ++ left ≡ all
   pub each : (x : Row) → Contains found x ↔ (Contains done x × IsOfRole x)
-
-pub roles_none : (all : List Row) → RolesSoFar all all []
-roles_none all = record { done = []; whole = refl; each = λ x. (λ c. absurd (omega (arith, c.1)), λ c. absurd (omega (arith, c.0.1))) }
 
 pub roles_more : (all left : List Row) (x : Row) (found new : List Row) → RolesSoFar all (x ∷ left) found → ((y : Row) → Contains new y ↔ (Contains found y ⊎ ((y ≡ x) × IsOfRole y))) → RolesSoFar all left new
 roles_more all left x found new far adds = record {
@@ -255,6 +240,13 @@ roles_more all left x found new far adds = record {
     λ c. (adds y).1 (elim (contains_cut far.done x y c.0) [ inl e ↦ inr (e, c.1) | inr d ↦ inl ((far.each y).1 (d, c.1)) ]),
   );
 }
+
+-- a row of a role goes to the end of the list
+pub role_added : (x : Row) (rows : List Row) → IsOfRole x → (y : Row) → Contains (rows ++ x ∷ []) y ↔ (Contains rows y ⊎ ((y ≡ x) × IsOfRole y))
+role_added x rows is y = (
+  λ c. elim (contains_cut rows x y c) [ inl e ↦ inr (e, subst IsOfRole (sym e) is) | inr d ↦ inl d ],
+  λ either. elim either [ inl d ↦ Contains-append_left rows (x ∷ []) y d | inr e ↦ subst (Contains (rows ++ x ∷ [])) (sym e.0) (Contains-push rows x) ],
+)
 
 pub roles_all : (all found : List Row) → RolesSoFar all [] found → (x : Row) → Contains found x ↔ (Contains all x × IsOfRole x)
 roles_all all found far x = subst (λ (rows : List Row). Contains found x ↔ (Contains rows x × IsOfRole x)) (all_done all far.done far.whole) (far.each x)
@@ -299,9 +291,6 @@ module _ (set : List ℕ) (individual : ℕ) (old : List Row) (count : ℕ) (row
       ],
     );
   }
-
-pub derived_none : (set : List ℕ) (individual : ℕ) (old : List Row) → DerivedSoFar set individual old 0 old
-derived_none set individual old = record { each = λ x. (λ c. inl c, λ either. elim either [ inl h ↦ h | inr h ↦ absurd (omega (arith, h.1)) ]) }
 
 -- ---- rows of the tables
 
@@ -354,10 +343,7 @@ module _ (o : Terminology) (held : List Row) where
 -- ---- by numbers and by names
 
 module _ (o : Terminology) (asserted rows : List NamedRow) (facts : Facts) (terminology : IsTerminology o) (keeps : KeepsFacts o asserted facts) (are : AreRowsOf asserted rows) where
-  -- a number has one name
-  one_name : (n : ℕ) (a b : List ℕ) → slice_get facts.individuals n ≡ Some a → slice_get facts.individuals n ≡ Some b → a ≡ b
-  one_name n a b at_a at_b = some_same (sym at_a ∙ at_b)
-
+  -- an individual has one number
   one_number : (n m : ℕ) (a : List ℕ) → slice_get facts.individuals n ≡ Some a → slice_get facts.individuals m ≡ Some a → n ≡ m
   one_number n m a at_n at_m = one_place facts.individuals n m a keeps.distinct at_n at_m
 
@@ -427,7 +413,7 @@ module _ (o : Terminology) (asserted rows : List NamedRow) (facts : Facts) (term
           let same : row.Role q k l ≡ row.Role p n m = cc in
           subst (Contains facts.rows.keys) same has
 
-  -- an individual has a number
+  -- and it has one
   number_of : (a : List ℕ) → IsIndividual rows a → (n : ℕ) × (slice_get facts.individuals n ≡ Some a)
   number_of a individual =
       let there : Contains facts.individuals a = (keeps.individual a).1 (individual_through rows asserted are.only a individual) in

@@ -20,6 +20,11 @@ use std::marker::Brand;
 use std::sync::ledger::Blank;
 
 /// Runs the command that the words name: the one word `answer` reads one document to its end and prints the reply to it.
+///
+/// `Done` comes where the document was read and its whole reply printed; `Refused` where a line of it offends, with the
+/// first such line and its first code; `Usage` exactly where the words are others, and then nothing is read or printed;
+/// `ReadFault` and `PrintFault` where the source or the host failed, which ends the run; `InputTooLarge` where the source
+/// gave more than 67,108,864 bytes; `NoMemory` where memory ran out. `DiskFault` and `Damaged` never come.
 pub fn serve<S: Source, H: Host>(
     alloc: Global,
     words: &Vec<String>,
