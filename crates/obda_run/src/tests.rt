@@ -6,7 +6,7 @@ use std::io::{self, Read};
 use std::test::Fail;
 
 // A document, how the run ends, and what is printed.
-const REPLIES: [(&[u8], Status, &[u8]); 46] = [
+const REPLIES: [(&[u8], Status, &[u8]); 47] = [
     (
         b"axiom SubClassOf(Prof Staff)\nfact Prof ann\nask q(?x) :- Staff(?x)\n",
         Status::Done,
@@ -84,6 +84,12 @@ const REPLIES: [(&[u8], Status, &[u8]); 46] = [
         b"axiom Property(r)\nfact r a b\nask q(?x) :- r(?x,nobody)\n",
         Status::Done,
         b"end 0\n",
+    ),
+    // As many atoms as a query may have.
+    (
+        b"axiom Class(A)\nfact A x\nask q(?x) :- A(?x),A(?x),A(?x),A(?x),A(?x),A(?x),A(?x),A(?x),A(?x),A(?x),A(?x),A(?x),A(?x),A(?x),A(?x),A(?x),A(?x),A(?x),A(?x),A(?x),A(?x),A(?x),A(?x),A(?x)\n",
+        Status::Done,
+        b"answer x\nend 1\n",
     ),
     // No answer variable, and one twice.
     (
