@@ -14,35 +14,28 @@ mod tests;
 use host_io::{FolderHost, StdSource};
 use obda_run::{Status, serve};
 use status_line::StatusLine;
+use std::alloc::AllocError;
+use std::env;
 use std::io::ErrorKind;
 use std::process::ExitCode;
 use std::rt::Env;
-use std::{env, io};
 
-/// Runs the command that the words name, writes the line of its ending to standard error, and ends with its number. A
-/// line that can't be written is given up: the number stays that of the ending.
+/// Runs the command that the words name, over standard input and standard output, writes the line of its ending to
+/// standard error, and ends with its number. A line that can't be written is given up: the number stays that of the
+/// ending.
 fn main(rt: HostRuntime) -> ExitCode {
-    let status = run(&rt);
+    let status = match words(&rt) {
+        Ok(words) => run(&rt, &words),
+        Err(status) => status,
+    };
     if let Some(line) = StatusLine::of(status) {
         let _ = rt.eprintln(line);
     }
     exit_code(status)
 }
 
-/// Runs the command that the words name, over standard input and standard output. It ends as `serve` does, or as reading
-/// the words does.
-fn run(rt: &(impl Env + AllocGlobal + Input + Print)) -> Status
-    ensures no_disk_fault { result ≢ DiskFault }
-    ensures no_damage { (area at : ℕ) → result ≢ Damaged area at }
-{
-    match words(rt) {
-        Ok(words) => run_words(rt, &words),
-        Err(status) => status,
-    }
-}
-
 /// Runs the command that these words name.
-fn run_words(rt: &(impl AllocGlobal + Input + Print), words: &Vec<String>) -> Status
+fn run(rt: &(impl AllocGlobal + Input + Print), words: &Vec<String>) -> Status
     ensures usage { (result ≡ Usage) ↔ (IsAnswer (map string_bytes words.now.items) → ⊥) }
     ensures no_disk_fault { result ≢ DiskFault }
     ensures no_damage { (area at : ℕ) → result ≢ Damaged area at }
@@ -56,9 +49,14 @@ fn run_words(rt: &(impl AllocGlobal + Input + Print), words: &Vec<String>) -> St
 fn words(rt: &(impl Env + AllocGlobal)) -> Result<Vec<String>, Status>
     ensures { IfErr result (λ status. (status ≡ Usage) ⊎ (status ≡ NoMemory)) }
 {
-    match words_behind_the_name(rt) {
+    let mut words = match env::args(rt) {
+        Ok(words) => words,
+        Err(error) => return Err(ending_of(error.kind())),
+    };
+    let _ = words.next();
+    match words.collect(rt.alloc()) {
         Ok(words) => Ok(words),
-        Err(error) => Err(ending_of(error.kind())),
+        Err(AllocError) => Err(Status::NoMemory),
     }
 }
 
@@ -73,12 +71,6 @@ fn ending_of(kind: ErrorKind) -> Status
     } else {
         Status::Usage
     }
-}
-
-fn words_behind_the_name(rt: &(impl Env + AllocGlobal)) -> io::Result<Vec<String>> {
-    let mut words = env::args(rt)?;
-    let _ = words.next();
-    Ok(words.collect(rt.alloc())?)
 }
 
 /// What the process ends with.
