@@ -1,8 +1,7 @@
 -- Laws of the answers to a document: each head is a concept name, so nothing is a successor and nothing clashes.
-use Rattle.std.proofs.Common.{◌≡◌, ℕ, List, All, Contains, Some, None, slice_get, Result, Ok, Err, IfOk, refl, subst}
+use Rattle.std.proofs.Common.{◌≡◌, ℕ, List, All, Contains, None, Result, Ok, Err, IfOk, refl, subst}
 use Rattle.std.specs.List.{AllByRecursion}
 use Rattle.std.proofs.lemmas.List.Elements.{All-contains}
-use Rattle.std.proofs.lemmas.Option.{slice_get_within, get_or_from_slice_get}
 use Rattle.dl_base.specs.Ontology.{Terminology}
 use Rattle.dl_base.specs.Query.{Question}
 use Rattle.dl_base.specs.Answers.{AreAnswers}
@@ -26,6 +25,7 @@ use Rattle.answer_core.specs.AnswerLaws.{HasNoSuccessorHead}
 use Rattle.obda_run.specs.Drafting.{IsConceptHead, IsWhole, HasReply}
 use Rattle.obda_run.specs.declared.document.Document.{Document}
 use Rattle.obda_run.proofs.FactLemmas.{in_order, rows_in_order}
+use Rattle.query_shape.proofs.PlaceLemmas.{member_at}
 
 -- ---- names that the ontology has
 
@@ -37,13 +37,10 @@ role_known : (o : Terminology) (a : Atom) (told : List ℕ) → IsKnown o a → 
 role_known o (atom.Concept name t) told known fault = fault
 role_known o (atom.Role name t u) told known fault = fault.1 known
 
-got_there : {X : Type 0} (xs : List X) (i : ℕ) (x : X) → slice_get xs i ≡ Some x → Contains xs x
-got_there xs i x at = (i, slice_get_within xs i x at, get_or_from_slice_get xs i x x at)
-
 -- where the ontology has each name of the query, its shape fails for want of memory alone
 pub only_memory : (o : Terminology) (q : Question) (e : ShapeError) → All (IsKnown o) q.atoms → IsShapeFault o q e → e ≡ errors.NoMemory
-only_memory o q (errors.UnknownConcept told) known fault = absurd (concept_known o fault.atom told (All-contains (IsKnown o) q.atoms fault.atom known (got_there q.atoms fault.place fault.atom fault.there)) fault.fault)
-only_memory o q (errors.UnknownRole told) known fault = absurd (role_known o fault.atom told (All-contains (IsKnown o) q.atoms fault.atom known (got_there q.atoms fault.place fault.atom fault.there)) fault.fault)
+only_memory o q (errors.UnknownConcept told) known fault = absurd (concept_known o fault.atom told (All-contains (IsKnown o) q.atoms fault.atom known (member_at q.atoms fault.place fault.atom fault.there)) fault.fault)
+only_memory o q (errors.UnknownRole told) known fault = absurd (role_known o fault.atom told (All-contains (IsKnown o) q.atoms fault.atom known (member_at q.atoms fault.place fault.atom fault.there)) fault.fault)
 only_memory o q errors.NoMemory known fault = refl
 
 -- ---- heads
@@ -65,7 +62,7 @@ module _ (o : Terminology) (built : AllByRecursion (λ i. IsConceptHead i.head) 
   pub no_clash : (rows : List NamedRow) → IsFirstClash o rows None
   no_clash rows c clash =
       let v = clash.violates in
-      nothing_head v.inclusion.head (head_built v.inclusion (got_there o.inclusions v.before v.inclusion v.at)) v.nothing
+      nothing_head v.inclusion.head (head_built v.inclusion (member_at o.inclusions v.before v.inclusion v.at)) v.nothing
 
 -- ---- the reply
 

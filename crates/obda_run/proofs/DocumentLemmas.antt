@@ -1,5 +1,5 @@
 -- A document that is refused is refused at one line, with one code, and asks nothing.
-use Rattle.std.proofs.Common.{◌≡◌, ℕ, ◌+◌, ◌⊎◌, inl, inr, List, [], ◌∷◌, ◌++◌, length, get_or, Some, None, refl, sym, ◌∙◌, ap, subst, arith}
+use Rattle.std.proofs.Common.{◌≡◌, ℕ, ◌+◌, ◌⊎◌, inl, inr, List, [], ◌∷◌, ◌++◌, length, Some, None, refl, sym, ◌∙◌, ap, subst, arith}
 use Rattle.dl_base.specs.Ontology.{Terminology}
 use Rattle.dl_base.specs.Query.{Question}
 use Rattle.dl_base.specs.declared.row.NamedRow.{NamedRow}
@@ -9,20 +9,9 @@ use Rattle.obda_run.specs.Document.{Context, nothing_said, with_line, Offends, A
 use Rattle.script_reader.specs.declared.doc_line.DocLine.{DocLine}
 use Rattle.obda_run.specs.declared.reason.Reason.{Reason}
 use Rattle.obda_run.proofs.LineLemmas.{lines_are}
+use Rattle.script_reader.proofs.BlankRules.{same_head, same_tail}
 use Rattle.script_reader.proofs.LineRules.{line_once}
 use Rattle.obda_run.proofs.ReasonLemmas.{reason_once}
-
--- ---- equal lists
-
-same_head : {A : Type 0} (x y : A) (xs ys : List A) → x ∷ xs ≡ y ∷ ys → x ≡ y
-same_head x y xs ys same = ap (λ l. get_or l 0 x) same
-
-abbrev behind_first : {A : Type 0} → List A → List A
-behind_first [] = []
-behind_first (x ∷ xs) = xs
-
-same_tail : {A : Type 0} (x y : A) (xs ys : List A) → x ∷ xs ≡ y ∷ ys → xs ≡ ys
-same_tail x y xs ys same = ap (λ l. behind_first l) same
 
 -- ---- lines that are accepted
 

@@ -34,7 +34,8 @@ use Rattle.obda_run.specs.declared.document.Partial.{Partial}
 use Rattle.obda_run.proofs.ReasonLemmas.{NoneBelow, HoldsFor, none_misplaced, none_not_built, none_limit, none_large, none_unsafe, none_concept, none_role, none_facts, none_holds}
 use Rattle.obda_run.proofs.OntologyLemmas.{ontology_more, ontology_same, axioms_fit, axioms_pass}
 use Rattle.obda_run.proofs.FactLemmas.{no_facts, some_facts, facts_of_none, facts_fit}
-use Rattle.obda_run.proofs.QueryLemmas.{not_large, not_unsafe, none_unknown, unknown_concept, unknown_role, not_both_first, got_there}
+use Rattle.query_shape.proofs.PlaceLemmas.{member_at}
+use Rattle.obda_run.proofs.QueryLemmas.{not_large, not_unsafe, none_unknown, unknown_concept, unknown_role, not_both_first}
 use Rattle.obda_run.proofs.DraftLemmas.{refused_long, refused_by, kept_more}
 use Rattle.dl_base.specs.declared.query.Atom.TheVariants as atom
 
@@ -319,8 +320,8 @@ unknown_draft p why r same = ap (λ (w : Reason). drafts.Refused w (raised p.lin
 
 -- a row with a place has a name that the axioms have
 pub place_named : (o : Terminology) (r : NamedRow) (place : ℕ) → IsPlaceOf o r place → LacksName o r → ⊥
-place_named o (row.Concept c a) place is lacks = lacks (got_there o.concepts place c is)
-place_named o (row.Role p a b) place is lacks = lacks (got_there o.roles place p is)
+place_named o (row.Concept c a) place is lacks = lacks (member_at o.concepts place c is)
+place_named o (row.Role p a b) place is lacks = lacks (member_at o.roles place p is)
 
 -- what a test says
 pub fits_true : (b : Bool) (P Q : Type 0) → b ≡ true → MatchBool b P Q → P

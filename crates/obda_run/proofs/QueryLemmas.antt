@@ -9,7 +9,7 @@ use Rattle.dl_base.specs.declared.query.Term.TheVariants as term
 use Rattle.dl_base.specs.declared.query.Atom.{Atom}
 use Rattle.dl_base.specs.declared.query.Atom.TheVariants as atom
 use Rattle.dl_base.proofs.DerivationLemmas.{all-of, all-by}
-use Rattle.dl_base.proofs.RisingLemmas.{all_contains, contains_first, contains_later}
+use Rattle.dl_base.proofs.RisingLemmas.{all_contains, contains_first}
 use Rattle.cq_reader.specs.QueryLimits.{IsTooLarge, IsFirstUnbound}
 use Rattle.cq_reader.proofs.TermCounts.{small_not_too_large}
 use Rattle.query_shape.specs.Shape.{IsShapeOf, Numbers, Layout}
@@ -21,6 +21,7 @@ use Rattle.query_shape.specs.declared.numbering.ShapeError.TheVariants as errors
 use Rattle.obda_run.specs.Document.{Context, vocabulary, IsFirstUnknown}
 use Rattle.obda_run.specs.Drafting.{KeepsOntology}
 use Rattle.script_reader.proofs.BlankRules.{same_head, same_tail}
+use Rattle.query_shape.proofs.PlaceLemmas.{member_at}
 use Rattle.obda_run.proofs.OntologyLemmas.{in_back}
 
 -- ---- the limits
@@ -91,17 +92,9 @@ module _ (said : Context) (o : Terminology) (k : KeepsOntology said o) where
 
 -- ---- what has a shape has known names
 
-pub got_there : (names : List (List ℕ)) (i : ℕ) (name : List ℕ) → slice_get names i ≡ Some name → Contains names name
-got_there [] i name there = absurd cc
-got_there (n ∷ names) zero name there = subst (Contains (n ∷ names)) (some_same n name there) (contains_first n names)
-  where
-    some_same : (x y : List ℕ) → Some x ≡ Some y → x ≡ y
-    some_same x y e = cc
-got_there (n ∷ names) (suc i) name there = contains_later n names name (got_there names i name there)
-
 atom_known : (o : Terminology) (ts : List Term) (a : Atom) (s : ShapeAtom) → Numbers o ts a s → IsKnown o a
-atom_known o ts (atom.Concept name t) (shape.Concept c n) numbers = got_there o.concepts c name numbers.0
-atom_known o ts (atom.Role name t u) (shape.Role r n m) numbers = got_there o.roles r.name name numbers.0
+atom_known o ts (atom.Concept name t) (shape.Concept c n) numbers = member_at o.concepts c name numbers.0
+atom_known o ts (atom.Role name t u) (shape.Role r n m) numbers = member_at o.roles r.name name numbers.0
 atom_known o ts (atom.Concept name t) (shape.Role r n m) numbers = absurd numbers
 atom_known o ts (atom.Role name t u) (shape.Concept c n) numbers = absurd numbers
 

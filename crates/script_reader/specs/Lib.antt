@@ -1,2 +1,3 @@
 pub mod DocLines
 pub mod RowReading
+pub mod LineLaws

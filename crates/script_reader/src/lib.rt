@@ -2,6 +2,7 @@
 #![tactic(auto)]
 
 mod doc_line;
+pub mod laws;
 
 pub use doc_line::{CommandError, DocLine, read_doc_line};
 
