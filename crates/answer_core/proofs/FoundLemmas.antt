@@ -23,7 +23,7 @@ use Rattle.join_ops.specs.Joins.{IsFixed}
 use Rattle.answer_core.specs.Keys.{IsNumbered, IsKeyOf, AreKeys}
 use Rattle.answer_core.specs.AnswerLaws.{HasNoSuccessorHead}
 use Rattle.answer_core.specs.Binding.{BoundQuery, IsBoundTo, IsFixedTerm}
-use Rattle.answer_core.specs.Found.{Reads, IsFoundKey, Spells, AreSpelled}
+use Rattle.answer_core.specs.Found.{AllStand, IsFoundKey, Spells, AreSpelled}
 use Rattle.answer_core.proofs.KeyLemmas.{keys_are_certain}
 use Rattle.answer_core.proofs.ListLemmas.{some_same, at_place, place_has, zip_at, zip_back}
 use Rattle.answer_core.proofs.TermLemmas.{occur_each, occur_only}
@@ -81,7 +81,7 @@ module _ (o : Terminology) (table : List TableRow) (names : List (List ℕ)) (q 
         map_at k.place b.shape.terms i found.0 found.1 ∙ ap Some (ap k.place name.1 ∙ (number.is ∙ ap elem.Named one))
 
     numbers_of_key : (vs : List (List ℕ)) (places : List ℕ) (key_names : List (List ℕ)) → AllZip (λ v n. slice_get b.shape.terms n ≡ Some (term.Var v)) vs places
-        → AllZip (λ v a. IsNumbered names (k.place (term.Var v)) a) vs key_names → (numbers : List ℕ) × Reads images places (length names) numbers × Spells names numbers key_names
+        → AllZip (λ v a. IsNumbered names (k.place (term.Var v)) a) vs key_names → (numbers : List ℕ) × AllStand images places (length names) numbers × Spells names numbers key_names
     unfolding images
     numbers_of_key [] [] [] p s = ([], tt, tt)
     numbers_of_key [] (n ∷ ns) rest p s = absurd p
@@ -110,7 +110,7 @@ module _ (o : Terminology) (table : List TableRow) (names : List (List ℕ)) (q 
     is_numbered e n a is at = subst (λ (f : Elem). IsNumbered names f a) (sym is) at
 
     answers_of : (vs : List (List ℕ)) (places ns : List ℕ) (key_names : List (List ℕ)) → AllZip (λ v n. slice_get b.shape.terms n ≡ Some (term.Var v)) vs places
-        → Reads found.images places (length names) ns → Spells names ns key_names → AllZip (λ v a. IsNumbered names (placing.0 (term.Var v)) a) vs key_names
+        → AllStand found.images places (length names) ns → Spells names ns key_names → AllZip (λ v a. IsNumbered names (placing.0 (term.Var v)) a) vs key_names
     answers_of [] [] [] [] p r s = tt
     answers_of [] [] [] (a ∷ rest) p r s = absurd s
     answers_of [] [] (m ∷ ms) rest p r s = absurd r
@@ -183,7 +183,7 @@ answers_result o rows names generation table q (Ok keys) query heads completed a
 answers_result o rows names generation table q (Err e) query heads completed are = tt
 
 -- what is found are numbers of names
-reads_within : (es : List Elem) (count : ℕ) (places numbers : List ℕ) → Reads es places count numbers → All (λ n. n < count) numbers
+reads_within : (es : List Elem) (count : ℕ) (places numbers : List ℕ) → AllStand es places count numbers → All (λ n. n < count) numbers
 reads_within es count [] [] r = All-nil (λ n. n < count)
 reads_within es count [] (n ∷ ns) r = absurd r
 reads_within es count (p ∷ ps) [] r = absurd r

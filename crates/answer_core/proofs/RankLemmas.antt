@@ -16,7 +16,7 @@ use Rattle.dl_base.proofs.RisingLemmas.{contains_cases, contains_first, contains
 use Rattle.query_shape.specs.Shape.{Layout, IsLayout, IsShapeMatch, HoldsAt, IsTermOf}
 use Rattle.query_shape.specs.declared.layout.ShapeAtom.{ShapeAtom}
 use Rattle.query_shape.specs.declared.layout.ShapeAtom.TheVariants as shape
-use Rattle.join_ops.specs.Joins.{Place, Start, Behind, End, IsBehind}
+use Rattle.join_ops.specs.Joins.{SearchPlace, Start, Behind, End, IsBehind}
 use Rattle.answer_core.proofs.KeyLemmas.{flat_there}
 
 -- the elements of a row, and of all rows
@@ -112,13 +112,13 @@ module _ (p q : List Elem → Bool) (into : (x : List Elem) → q x ≡ true →
       by rest (inr d) = later (p x) (q x) (into x) (rest d)
 
 -- whether the images are behind the place
-abbrev pub comes_behind : Place → List Elem → Bool
+abbrev pub comes_behind : SearchPlace → List Elem → Bool
 comes_behind Start images = true
 comes_behind (Behind last) images = is_lt (slice_cmp elem_cmp last images)
 comes_behind End images = false
 
 -- how many of these lists are behind the place
-abbrev pub rank : List (List Elem) → Place → ℕ
+abbrev pub rank : List (List Elem) → SearchPlace → ℕ
 rank all place = passing (comes_behind place) all
 
 less_of : (d : Ordering) → is_lt d ≡ true → d ≡ Less
@@ -126,19 +126,19 @@ less_of Less e = refl
 less_of Equal e = absurd cc
 less_of Greater e = absurd cc
 
-behind_is : (place : Place) (images : List Elem) → IsBehind place images → comes_behind place images ≡ true
+behind_is : (place : SearchPlace) (images : List Elem) → IsBehind place images → comes_behind place images ≡ true
 behind_is Start images h = refl
 behind_is (Behind last) images h = ap is_lt h
 behind_is End images h = absurd h
 
-behind_more : (place : Place) (images others : List Elem) → IsBehind place images → comes_behind (Behind images) others ≡ true → comes_behind place others ≡ true
+behind_more : (place : SearchPlace) (images others : List Elem) → IsBehind place images → comes_behind (Behind images) others ≡ true → comes_behind place others ≡ true
 behind_more Start images others h more = refl
 behind_more (Behind last) images others h more = ap is_lt ((lists_total elem_total).trans last images others h (less_of (slice_cmp elem_cmp images others) more))
 behind_more End images others h more = absurd h
 
 -- behind the next match there are fewer
-pub rank_falls : (all : List (List Elem)) (place new : Place) (images : List Elem) → IsBehind place images → new ≡ Behind images → Contains all images → rank all new < rank all place
+pub rank_falls : (all : List (List Elem)) (place new : SearchPlace) (images : List Elem) → IsBehind place images → new ≡ Behind images → Contains all images → rank all new < rank all place
 rank_falls all place new images behind stands there =
-    subst (λ (at : Place). rank all at < rank all place) (sym stands)
+    subst (λ (at : SearchPlace). rank all at < rank all place) (sym stands)
     (passing_fewer (comes_behind place) (comes_behind (Behind images)) (λ others. behind_more place images others behind) all images there (behind_is place images behind)
     (ap is_lt (tied_itself (lists_total elem_total) images)))

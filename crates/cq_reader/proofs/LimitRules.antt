@@ -13,7 +13,7 @@ use Rattle.grammar.proofs.Exact.{IsValueOf}
 use Rattle.cq_reader.specs.declared.query.QueryError.{QueryError}
 use Rattle.cq_reader.specs.declared.query.QueryError.TheVariants.{Syntax, TooLarge, Unsafe, NoMemory}
 use Rattle.cq_reader.specs.QueryText.{query}
-use Rattle.cq_reader.specs.QueryFault.{Means, IsUnfit, IsRefused}
+use Rattle.cq_reader.specs.QueryFault.{MeansQuery, IsUnfit, IsRefused}
 use Rattle.cq_reader.specs.QueryLimits.{AreDistinctOf, IsSmall, IsTooLarge, IsFirstUnbound}
 
 pub distinct_none : AreDistinctOf [] []
@@ -83,7 +83,7 @@ pub ok_more : {A E : Type 0} {P Q : A → Type 0} (r : Result A E) → ((x : A) 
 ok_more (Ok x) f p = f x p
 ok_more (Err e) f p = tt
 
-pub means_of : {text : List ℕ} {q : Question} → IsValueOf query text q → Means text q
+pub means_of : {text : List ℕ} {q : Question} → IsValueOf query text q → MeansQuery text q
 means_of v = record { is = v.is; only = v.only }
 
 pub some_atoms : (text : List ℕ) (q : Question) → query text q → 1 ≤ length q.atoms
@@ -91,11 +91,11 @@ some_atoms text q s =
     let others = s.in_second.in_second.in_second.in_second.in_second.in_second.in_second.in_second.in_second in
     subst (λ (a : Question). 1 ≤ length a.atoms) (sym others.in_second.1) (omega arith)
 
-pub passes : (text : List ℕ) (q : Question) (r : Result Question QueryError) → Means text q → IfOk r (λ found. (found ≡ q) × IsQuery found) → IfOk r (λ found. Means text found × IsQuery found)
-passes text q (Ok found) m p = (subst (λ (a : Question). Means text a) (sym p.0) m, p.1)
+pub passes : (text : List ℕ) (q : Question) (r : Result Question QueryError) → MeansQuery text q → IfOk r (λ found. (found ≡ q) × IsQuery found) → IfOk r (λ found. MeansQuery text found × IsQuery found)
+passes text q (Ok found) m p = (subst (λ (a : Question). MeansQuery text a) (sym p.0) m, p.1)
 passes text q (Err e) m p = tt
 
-pub refuses : (text : List ℕ) (q : Question) (r : Result Question QueryError) → Means text q → IfErr r (λ e. IsUnfit q e) → IfErr r (λ e. IsRefused text e)
+pub refuses : (text : List ℕ) (q : Question) (r : Result Question QueryError) → MeansQuery text q → IfErr r (λ e. IsUnfit q e) → IfErr r (λ e. IsRefused text e)
 refuses text q (Ok found) m p = tt
 refuses text q (Err (Syntax place)) m p = absurd p
 refuses text q (Err TooLarge) m p = (q, m, p)

@@ -9,8 +9,8 @@ use Rattle.dl_base.specs.declared.element.Elem.TheVariants as elem
 use Rattle.query_shape.specs.Shape.{HoldsAt, IsBelow}
 use Rattle.query_shape.specs.declared.layout.ShapeAtom.{ShapeAtom}
 use Rattle.query_shape.specs.declared.layout.ShapeAtom.TheVariants as shape
-use Rattle.join_ops.specs.Joins.{Place, Start, Behind, IsFound, IsBehind}
-use Rattle.join_ops.specs.Levels.{fixed_of, Offers, IsWithin, IsSource, AreSources, Fits, IsBeyond, IsFront, IsAt, IsLeast}
+use Rattle.join_ops.specs.Joins.{SearchPlace, Start, Behind, IsFound, IsBehind}
+use Rattle.join_ops.specs.Levels.{fixed_of, Offers, IsFromFront, IsSource, AreSources, Fits, IsBeyond, IsFront, IsAt, IsLeast}
 use Rattle.join_ops.specs.declared.source.Source.{Source}
 use Rattle.join_ops.specs.declared.source.Source.TheVariants as source
 use Rattle.join_ops.proofs.Beyond.{deeper_beyond, deeper_within, back_beyond, back_within, last_least, last_beyond, behind_beyond, beyond_behind}
@@ -46,7 +46,7 @@ below_more : (k j : ℕ) (a : ShapeAtom) → k ≤ j → IsBelow k a → IsBelow
 below_more k j (shape.Concept c n) more below = omega arith
 below_more k j (shape.Role r n m) more below = (omega (arith, below.0), omega (arith, below.1))
 
-offers_front : (table : List TableRow) (s : Source) (front ys : List Elem) (e : Elem) → IsWithin (length front) s → Offers table s (front ++ ys) e → Offers table s front e
+offers_front : (table : List TableRow) (s : Source) (front ys : List Elem) (e : Elem) → IsFromFront (length front) s → Offers table s (front ++ ys) e → Offers table s front e
 offers_front table (source.Named n) front ys e within h = h
 offers_front table (source.Concept c) front ys e within h = h
 offers_front table (source.Outgoing r) front ys e within h = h
@@ -155,7 +155,7 @@ module _ (table : List TableRow) (atoms : List ShapeAtom) (sources : List Source
   not_above front after e s images at least found m rest same over greater =
       least.2 m (match_fits front m rest s at (subst (IsFound table atoms (map fixed_of sources)) same found)) over greater
 
-  pub goes_deeper : (place : Place) (front : List Elem) (after : Option Elem) (e : Elem) (s : Source) → slice_get sources (length front) ≡ Some s
+  pub goes_deeper : (place : SearchPlace) (front : List Elem) (after : Option Elem) (e : Elem) (s : Source) → slice_get sources (length front) ≡ Some s
       → suc (suc (length front)) ≤ length sources → IsLeastAbove (Fits table atoms s front) after (Some e)
       → IsAt table atoms (map fixed_of sources) place front after → IsAt table atoms (map fixed_of sources) place (front ++ e ∷ []) None
   goes_deeper place front after e s at more least is = record {
@@ -164,7 +164,7 @@ module _ (table : List TableRow) (atoms : List ShapeAtom) (sources : List Source
     behind = λ images count over. is.behind images count (deeper_within front after e images least.1 over);
   }
 
-  pub goes_back : (place : Place) (front : List Elem) (a : Elem) (after : Option Elem) (s : Source) → slice_get sources (length (front ++ a ∷ [])) ≡ Some s
+  pub goes_back : (place : SearchPlace) (front : List Elem) (a : Elem) (after : Option Elem) (s : Source) → slice_get sources (length (front ++ a ∷ [])) ≡ Some s
       → IsLeastAbove (Fits table atoms s (front ++ a ∷ [])) after None
       → IsAt table atoms (map fixed_of sources) place (front ++ a ∷ []) after → IsAt table atoms (map fixed_of sources) place front (Some a)
   goes_back place front a after s at none is = record {
@@ -182,7 +182,7 @@ module _ (table : List TableRow) (atoms : List ShapeAtom) (sources : List Source
     fixed_are = λ k n fixed. is.fixed_are k n (let within = slice_get_within (map fixed_of sources) k (Some n) fixed in omega (arith, within, count, sources_long sources)) fixed;
   }
 
-  pub gives_least : (place : Place) (front : List Elem) (after : Option Elem) (e : Elem) (s : Source) → slice_get sources (length front) ≡ Some s
+  pub gives_least : (place : SearchPlace) (front : List Elem) (after : Option Elem) (e : Elem) (s : Source) → slice_get sources (length front) ≡ Some s
       → suc (length front) ≡ length sources → ((a : ShapeAtom) → Contains atoms a → IsBelow (length sources) a)
       → IsLeastAbove (Fits table atoms s front) after (Some e)
       → IsAt table atoms (map fixed_of sources) place front after → IsLeast table atoms (map fixed_of sources) place (front ++ e ∷ [])
@@ -194,7 +194,7 @@ module _ (table : List TableRow) (atoms : List ShapeAtom) (sources : List Source
         least = λ others found behind. last_least front after e others (is.beyond others found behind) (not_above front after e s others at least found) (long others found ∙ sym count);
       }
 
-  pub gives_none : (place : Place) (after : Option Elem) (s : Source) → slice_get sources 0 ≡ Some s → IsLeastAbove (Fits table atoms s []) after None
+  pub gives_none : (place : SearchPlace) (after : Option Elem) (s : Source) → slice_get sources 0 ≡ Some s → IsLeastAbove (Fits table atoms s []) after None
       → IsAt table atoms (map fixed_of sources) place [] after
       → (others : List Elem) → IsFound table atoms (map fixed_of sources) others → IsBehind place others → ⊥
   gives_none place after s at none is [] found behind = is.beyond [] found behind

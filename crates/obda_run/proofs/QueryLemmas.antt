@@ -12,7 +12,7 @@ use Rattle.dl_base.proofs.DerivationLemmas.{all-of, all-by}
 use Rattle.dl_base.proofs.RisingLemmas.{all_contains, contains_first}
 use Rattle.cq_reader.specs.QueryLimits.{IsTooLarge, IsFirstUnbound}
 use Rattle.cq_reader.proofs.TermCounts.{small_not_too_large}
-use Rattle.query_shape.specs.Shape.{IsShapeOf, Numbers, Layout}
+use Rattle.query_shape.specs.Shape.{IsShapeOf, NumbersAtom, Layout}
 use Rattle.query_shape.specs.ShapeFault.{IsKnown, IsFirstFault, IsAtomFault}
 use Rattle.query_shape.specs.declared.layout.ShapeAtom.{ShapeAtom}
 use Rattle.query_shape.specs.declared.layout.ShapeAtom.TheVariants as shape
@@ -92,13 +92,13 @@ module _ (said : Context) (o : Terminology) (k : KeepsOntology said o) where
 
 -- ---- what has a shape has known names
 
-atom_known : (o : Terminology) (ts : List Term) (a : Atom) (s : ShapeAtom) → Numbers o ts a s → IsKnown o a
+atom_known : (o : Terminology) (ts : List Term) (a : Atom) (s : ShapeAtom) → NumbersAtom o ts a s → IsKnown o a
 atom_known o ts (atom.Concept name t) (shape.Concept c n) numbers = member_at o.concepts c name numbers.0
 atom_known o ts (atom.Role name t u) (shape.Role r n m) numbers = member_at o.roles r.name name numbers.0
 atom_known o ts (atom.Concept name t) (shape.Role r n m) numbers = absurd numbers
 atom_known o ts (atom.Role name t u) (shape.Concept c n) numbers = absurd numbers
 
-atoms_known : (o : Terminology) (ts : List Term) (atoms : List Atom) (ss : List ShapeAtom) → AllZip (Numbers o ts) atoms ss → AllByRecursion (IsKnown o) atoms
+atoms_known : (o : Terminology) (ts : List Term) (atoms : List Atom) (ss : List ShapeAtom) → AllZip (NumbersAtom o ts) atoms ss → AllByRecursion (IsKnown o) atoms
 atoms_known o ts [] ss each = tt
 atoms_known o ts (a ∷ atoms) [] each = absurd each
 atoms_known o ts (a ∷ atoms) (s ∷ ss) (first, rest) = (atom_known o ts a s first, atoms_known o ts atoms ss rest)

@@ -14,7 +14,7 @@ use Rattle.dl_base.specs.Tables.{AreCounted}
 use Rattle.dl_base.specs.declared.element.Elem.TheVariants as elem
 use Rattle.dl_base.proofs.RisingLemmas.{contains_cases, contains_later, contains_first}
 use Rattle.plain_tables.specs.Kept.{edge_cmp}
-use Rattle.plain_tables.specs.Search.{IsSource}
+use Rattle.plain_tables.specs.Search.{IsEdgeSource}
 use Rattle.plain_tables.specs.declared.rows.Edge.{Edge}
 use Rattle.plain_tables.proofs.OrderLemmas.{edge_less}
 
@@ -163,7 +163,7 @@ module _ (edges : List Edge) (p : ℕ) (rises : IsStrictlySortedBy edge_cmp edge
         subst (λ (n : ℕ). Counted edges (i + 1) (Some x.from) n) zero (counted_same i last count x below at counted old.1)
   ]
 
-  pub counted_all : (last : Option ℕ) (count : ℕ) → Counted edges (length edges) last count → AreCounted (IsSource edges) count
+  pub counted_all : (last : Option ℕ) (count : ℕ) → Counted edges (length edges) last count → AreCounted (IsEdgeSource edges) count
   counted_all last count counted = record {
     members = map elem.Named counted.froms;
     distinct = counted.distinct;
