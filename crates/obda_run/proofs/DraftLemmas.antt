@@ -52,11 +52,6 @@ pub refused_long : (lines : List (List ℕ)) (text : List ℕ) (p : Partial) (k 
     → FirstOffence (lines ++ text ∷ []) (raised p.lines) reason.TooLong
 refused_long lines text p k few long = offence_now lines text p k reason.TooLong few (offends_long k.said text long)
 
--- a line that says nothing
-pub refused_syntax : (lines : List (List ℕ)) (text : List ℕ) (p : Partial) → NextText lines text p → ((d : DocLine) → IsDocLine text d → ⊥)
-    → FirstOffence (lines ++ text ∷ []) (raised p.lines) reason.Misplaced
-refused_syntax lines text p next none = offence_now lines text p next.keeps reason.Misplaced next.few (offends_syntax next.keeps.said text next.short none)
-
 -- a line that says this
 module _ (lines : List (List ℕ)) (text : List ℕ) (d : DocLine) (p : Partial) (next : NextText lines text p) (says : IsDocLine text d) where
   pub refused_by : (why : Reason) → HoldsFor next.keeps.said d why → NoneBelow (HoldsFor next.keeps.said d) (rank_of why) → FirstOffence (lines ++ text ∷ []) (raised p.lines) why

@@ -117,9 +117,6 @@ pub record Taken (input : List ℕ) (taken : ℕ) (left : Option (List ℕ)) (li
   pub count : length read ≡ taken
   pub reading : IsReading read line draft
 
-pub taken_none : (input : List ℕ) (left : Option (List ℕ)) (line : List ℕ) (draft : Draft) → left ≡ Some input → line ≡ [] → KeepsDraft [] draft → Taken input 0 left line draft
-taken_none input left line draft is empty keeps = record { read = []; rest = input; reads = record { parts = refl; is_left = is }; count = refl; reading = reading_none line draft empty keeps }
-
 module _ (input : List ℕ) (taken : ℕ) (left : Option (List ℕ)) (line : List ℕ) (draft : Draft) (t : Taken input taken left line draft) where
   pub stopped : (ending : Status) (left' : Option (List ℕ)) → left' ≡ left → EndsEarly ending t.read t.rest → HasStopped (Err ending) input left'
   stopped ending left' same ends = record { read = t.read; rest = t.rest; reads = record { parts = t.reads.parts; is_left = same ∙ t.reads.is_left }; stops = ends }

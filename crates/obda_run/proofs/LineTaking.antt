@@ -47,18 +47,6 @@ kept_none o facts ontology are = record { said = nothing_said; accepted = refl; 
 
 -- ---- what is kept of a line
 
--- what is kept of a line that is too long is too long
-pub long_line : (lines : List (List ℕ)) (text bytes : List ℕ) (p : Partial) → length lines < 2 ^ 63 → StandsFor bytes text → KeepsPartial lines p → 4096 < length (line_of bytes)
-    → FirstOffence (lines ++ text ∷ []) (raised p.lines) reason.TooLong
-long_line lines text bytes p few stands k long = refused_long lines text p k few (stands.long long)
-
-pub next_text : (lines : List (List ℕ)) (text bytes kept : List ℕ) (p : Partial) → length lines < 2 ^ 63 → StandsFor bytes text → KeepsPartial lines p → kept ≡ line_of bytes → length kept ≤ 4096
-    → (text ≡ kept) × NextText lines kept p
-next_text lines text bytes kept p few stands k is short = (
-  sym (stands.short (subst (λ (t : List ℕ). length t ≤ 4096) is short)) ∙ sym is,
-  record { few = few; short = short; keeps = k },
-)
-
 -- ---- the query so far
 
 asked_too : (asked query : Option Question) → asked ≡ query → is_some asked ≡ true → IsSome query

@@ -7,3 +7,4 @@ pub mod Completed
 pub mod Text
 pub mod Drafting
 pub mod Run
+pub mod DocumentLaws

@@ -1,5 +1,5 @@
 //! The top call.
-ghost use Rattle.std.specs.Prelude.{◌≡◌, ◌≢◌, ◌≤◌, ◌⊎◌, ◌↔◌, ℕ, List, IsTrue, codes, length, map, string_bytes};
+ghost use Rattle.std.specs.Prelude.{◌≡◌, ◌≢◌, ◌<◌, ◌≤◌, ◌⊎◌, ◌↔◌, ℕ, List, IsTrue, codes, length, map, string_bytes};
 ghost use Rattle.std.specs.Option.{ForSome};
 ghost use Rattle.host_io.specs.Causes.{Rose};
 ghost use Rattle.dl_base.specs.Ontology.{Terminology};
@@ -34,18 +34,21 @@ pub fn serve<S: Source, H: Host>(
     // Other words are refused, and nothing is touched.
     ensures usage { (result ≡ Status.Usage) ↔ (IsAnswer (map string_bytes words.now.items) → ⊥) }
     ensures usage_reads_nothing { result ≡ Status.Usage → source.new ≡ source.old }
-    ensures usage_prints_nothing { result ≡ Status.Usage → host.new ≡ host.old }
 
-    // A fault comes only where its count rose, and none of a disk or of an area.
+    // The host is called for a reply alone: each other ending leaves it as it was.
+    ensures silent { result ≢ Status.Done → result ≢ Status.PrintFault → host.new ≡ host.old }
+    ensures disk { H.disk host.new ≡ H.disk host.old }
+
+    // A fault comes only where its count rose, and ends the run; none comes of a disk or of an area.
     ensures read_fault { result ≡ Status.ReadFault → Rose (S.read_faults source.old) (S.read_faults source.new) }
     ensures print_fault { result ≡ Status.PrintFault → Rose (H.print_faults host.old) (H.print_faults host.new) }
     ensures read_faults { S.read_faults source.old ≤ S.read_faults source.new }
     ensures print_faults { H.print_faults host.old ≤ H.print_faults host.new }
+    ensures read_fault_ends { S.read_faults source.old < S.read_faults source.new → result ≡ Status.ReadFault }
+    ensures print_fault_ends { H.print_faults host.old < H.print_faults host.new → result ≡ Status.PrintFault }
+    ensures disk_faults { H.disk_faults host.new ≡ H.disk_faults host.old }
     ensures no_disk_fault { result ≢ Status.DiskFault }
     ensures no_damage { (area at : ℕ) → result ≢ Status.Damaged area at }
-
-    // Nothing is printed but a reply.
-    ensures silent { result ≢ Status.Done → result ≢ Status.PrintFault → H.printed host.new ≡ H.printed host.old }
 
     // Where the source tells its bytes: they are a document, and the reply is its certain answers; or how the run ends.
     ensures run { result ≢ Status.Usage → ForSome (S.left source.old) (λ input.
@@ -91,7 +94,10 @@ fn reply<H: Host>(alloc: Global, host: &mut H, document: &Document) -> Status
     ensures only { (result ≡ Status.Done) ⊎ (result ≡ Status.PrintFault) ⊎ (result ≡ Status.NoMemory) }
     ensures fault { result ≡ Status.PrintFault → Rose (H.print_faults host.old) (H.print_faults host.new) }
     ensures later { H.print_faults host.old ≤ H.print_faults host.new }
-    ensures silent { result ≡ Status.NoMemory → H.printed host.new ≡ H.printed host.old }
+    ensures fault_ends { H.print_faults host.old < H.print_faults host.new → result ≡ Status.PrintFault }
+    ensures silent { result ≡ Status.NoMemory → host.new ≡ host.old }
+    ensures disk { H.disk host.new ≡ H.disk host.old }
+    ensures disk_faults { H.disk_faults host.new ≡ H.disk_faults host.old }
     ensures replies { (read : List ℕ) → IsDocumentOf read document.now → Replies result read (H.printed host.old) (H.printed host.new) }
 {
     let Ok(keys) = certain_answers::<Brand>(alloc, document, Blank::new(1)) else {

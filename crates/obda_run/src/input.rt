@@ -22,6 +22,7 @@ const BUFFER: usize = 65_536;
 pub fn read_document<S: Source>(alloc: Global, source: &mut S) -> Result<Document, Status>
     ensures later { S.read_faults source.old ≤ S.read_faults source.new }
     ensures fault { IsErrOf result Status.ReadFault → Rose (S.read_faults source.old) (S.read_faults source.new) }
+    ensures fault_ends { S.read_faults source.old < S.read_faults source.new → IsErrOf result Status.ReadFault }
     ensures early { IfErr result IsEarly }
     ensures sound { IfOk result IsSound }
     ensures read { ForSome (S.left source.old) (λ input. HasStopped result input (S.left source.new)) }
@@ -50,6 +51,7 @@ fn read_lines<S: Source>(
     requires buffer { length buffer.old ≡ 65536 }
     ensures later { S.read_faults source.old ≤ S.read_faults source.new }
     ensures fault { IsErrOf result Status.ReadFault → Rose (S.read_faults source.old) (S.read_faults source.new) }
+    ensures fault_ends { S.read_faults source.old < S.read_faults source.new → IsErrOf result Status.ReadFault }
     ensures early { IfErr result IsEarly }
     ensures sound { IfOk result IsSound }
     ensures read { ForSome (S.left source.old) (λ input. HasStopped result input (S.left source.new)) }

@@ -7,6 +7,7 @@ mod completed;
 mod document;
 mod facts;
 mod input;
+pub mod laws;
 mod lines;
 mod reason;
 mod reply;

@@ -1,12 +1,13 @@
 // Documents and their replies, through the top call.
 use super::*;
-use host_io::{Bytes, Calls, MemHost, MemSource, Source, StdSource};
+use host_io::{Areas, Bytes, Calls, MemHost, MemSource, Source, StdSource};
 use std::alloc::Global;
 use std::io::{self, Read};
+use std::process::Abort;
 use std::test::Fail;
 
 // A document, how the run ends, and what is printed.
-const REPLIES: [(&[u8], Status, &[u8]); 47] = [
+const REPLIES: [(&[u8], Status, &[u8]); 49] = [
     (
         b"axiom SubClassOf(Prof Staff)\nfact Prof ann\nask q(?x) :- Staff(?x)\n",
         Status::Done,
@@ -115,7 +116,12 @@ const REPLIES: [(&[u8], Status, &[u8]); 47] = [
     ),
     // No axiom names the concept or the role.
     (
-        b"axiom SubClassOf(A B)\nfact C y\n",
+        b"axiom SubClassOf(A B)\nfact A x\nfact C y\nask q(?x) :- B(?x)\n",
+        Status::Refused { code: 6, line: 3 },
+        b"",
+    ),
+    (
+        b"axiom Class(A)\nfact B x\n",
         Status::Refused { code: 6, line: 2 },
         b"",
     ),
@@ -136,8 +142,8 @@ const REPLIES: [(&[u8], Status, &[u8]); 47] = [
     ),
     // Heads that aren't built, and lines that have no form.
     (
-        b"axiom Class(A)\naxiom SubClassOf(A Some(r))\n",
-        Status::Refused { code: 99, line: 2 },
+        b"axiom SubClassOf(A Some(r))\n",
+        Status::Refused { code: 99, line: 1 },
         b"",
     ),
     (
@@ -164,6 +170,11 @@ const REPLIES: [(&[u8], Status, &[u8]); 47] = [
         b"",
     ),
     (
+        b"axiom SubClassOf(Prof Staff)\nfact Prof ann\nask q(?x) :- Staff(?x),Staff(?x),Staff(?x),Staff(?x),Staff(?x),Staff(?x),Staff(?x),Staff(?x),Staff(?x),Staff(?x),Staff(?x),Staff(?x),Staff(?x),Staff(?x),Staff(?x),Staff(?x),Staff(?x),Staff(?x),Staff(?x),Staff(?x),Staff(?x),Staff(?x),Staff(?x),Staff(?x),Staff(?x)\n",
+        Status::Refused { code: 16, line: 3 },
+        b"",
+    ),
+    (
         b"axiom SubClassOf(A B)\nask q(?y) :- A(?x),A(?x),A(?x),A(?x),A(?x),A(?x),A(?x),A(?x),A(?x),A(?x),A(?x),A(?x),A(?x),A(?x),A(?x),A(?x),A(?x),A(?x),A(?x),A(?x),A(?x),A(?x),A(?x),A(?x),A(?x)\n",
         Status::Refused { code: 16, line: 2 },
         b"",
@@ -175,7 +186,7 @@ const REPLIES: [(&[u8], Status, &[u8]); 47] = [
     ),
     // Out of order.
     (
-        b"axiom SubClassOf(A B)\nask q(?x) :- A(?x)\nfact A x\n",
+        b"axiom Class(A)\nask q(?x) :- A(?x)\nfact A x\n",
         Status::Refused { code: 1, line: 3 },
         b"",
     ),
@@ -252,30 +263,19 @@ fn command_line(alloc: Global, words: &[&str]) -> Result<Vec<String>, Fail> {
     Ok(line)
 }
 
-// A run over a document.
-fn answer(
+// A run over a document, how it ends, and the last bytes that it prints.
+fn ends(
+    rt: &impl Abort,
     alloc: Global,
     document: Bytes,
-    fails: Calls,
-    host: &mut MemHost,
-) -> Result<Status, Fail> {
+    want: Status,
+    tail: &[u8],
+) -> Result<(), Fail> {
     let words = command_line(alloc, &["answer"])?;
-    let mut source = MemSource::new(document, fails);
-    Ok(serve(alloc, &words, &mut source, host))
-}
-
-#[test]
-fn documents_have_their_replies(rt: HostRuntime) -> Result<(), Fail> {
-    let alloc = rt.alloc();
-    for (document, want, printed) in REPLIES {
-        let mut host = MemHost::new(alloc, Calls::new(alloc));
-        let document = Bytes::from_slice(alloc, document)?;
-        assert_eq!(rt;
-            answer(alloc, document, Calls::new(alloc), &mut host)?,
-            want
-        );
-        assert_eq!(rt; host.printed().items(), printed);
-    }
+    let mut source = MemSource::new(document, Calls::new(alloc));
+    let mut host = MemHost::new(alloc, Areas::new(alloc), Calls::new(alloc));
+    assert_eq!(rt; serve(alloc, &words, &mut source, &mut host), want);
+    assert!(rt; host.printed().items().ends_with(tail));
     Ok(())
 }
 
@@ -297,13 +297,13 @@ impl Read for Pieces {
 }
 
 #[test]
-fn pieces_give_the_same(rt: HostRuntime) -> Result<(), Fail> {
+fn documents_have_their_replies(rt: HostRuntime) -> Result<(), Fail> {
     let alloc = rt.alloc();
     let words = command_line(alloc, &["answer"])?;
     for (bytes, want, printed) in REPLIES {
         for size in [1, 2, 4095] {
             let mut source = StdSource::new(Pieces { bytes, size });
-            let mut host = MemHost::new(alloc, Calls::new(alloc));
+            let mut host = MemHost::new(alloc, Areas::new(alloc), Calls::new(alloc));
             assert_eq!(rt; serve(alloc, &words, &mut source, &mut host), want);
             assert_eq!(rt; host.printed().items(), printed);
         }
@@ -318,7 +318,7 @@ fn other_words_touch_nothing(rt: HostRuntime) -> Result<(), Fail> {
     for line in lines {
         let words = command_line(alloc, line)?;
         let mut source = MemSource::new(Bytes::from_slice(alloc, b"rest")?, Calls::new(alloc));
-        let mut host = MemHost::new(alloc, Calls::new(alloc));
+        let mut host = MemHost::new(alloc, Areas::new(alloc), Calls::new(alloc));
         assert_eq!(rt; serve(alloc, &words, &mut source, &mut host), Status::Usage);
         assert_eq!(rt; host.calls(), 0);
         let mut buf = [0u8; 8];
@@ -328,28 +328,18 @@ fn other_words_touch_nothing(rt: HostRuntime) -> Result<(), Fail> {
 }
 
 #[test]
-fn a_first_read_that_fails_is_a_read_fault(rt: HostRuntime) -> Result<(), Fail> {
+fn the_first_fault_ends_the_run(rt: HostRuntime) -> Result<(), Fail> {
     let alloc = rt.alloc();
+    let words = command_line(alloc, &["answer"])?;
     let document = Bytes::from_slice(alloc, REPLIES[0].0)?;
-    let mut host = MemHost::new(alloc, Calls::new(alloc));
-    let fails = Calls::from_slice(alloc, &[1])?;
-    assert_eq!(rt;
-        answer(alloc, document, fails, &mut host)?,
-        Status::ReadFault
-    );
+    let mut source = MemSource::new(document, Calls::from_slice(alloc, &[1])?);
+    let mut host = MemHost::new(alloc, Areas::new(alloc), Calls::new(alloc));
+    assert_eq!(rt; serve(alloc, &words, &mut source, &mut host), Status::ReadFault);
     assert_eq!(rt; host.calls(), 0);
-    Ok(())
-}
-
-#[test]
-fn a_first_print_that_fails_is_a_print_fault(rt: HostRuntime) -> Result<(), Fail> {
-    let alloc = rt.alloc();
     let document = Bytes::from_slice(alloc, REPLIES[0].0)?;
-    let mut host = MemHost::new(alloc, Calls::from_slice(alloc, &[1])?);
-    assert_eq!(rt;
-        answer(alloc, document, Calls::new(alloc), &mut host)?,
-        Status::PrintFault
-    );
+    let mut source = MemSource::new(document, Calls::new(alloc));
+    let mut host = MemHost::new(alloc, Areas::new(alloc), Calls::from_slice(alloc, &[1])?);
+    assert_eq!(rt; serve(alloc, &words, &mut source, &mut host), Status::PrintFault);
     assert_eq!(rt; host.printed().items(), b"".as_slice());
     assert_eq!(rt; host.lacked(), 0);
     Ok(())
@@ -362,35 +352,6 @@ fn comments(alloc: Global, length: u64) -> Result<Bytes, Fail> {
         bytes.push(if i % 4096 == 4095 { b'\n' } else { b'#' })?;
     }
     Ok(bytes)
-}
-
-#[test]
-fn an_input_is_not_too_large_at_the_limit(rt: HostRuntime) -> Result<(), Fail> {
-    let alloc = rt.alloc();
-    let mut host = MemHost::new(alloc, Calls::new(alloc));
-    let document = comments(alloc, 67_108_864)?;
-    let refused = Status::Refused {
-        code: 1,
-        line: 16_385,
-    };
-    assert_eq!(rt;
-        answer(alloc, document, Calls::new(alloc), &mut host)?,
-        refused
-    );
-    Ok(())
-}
-
-#[test]
-fn an_input_is_too_large_behind_the_limit(rt: HostRuntime) -> Result<(), Fail> {
-    let alloc = rt.alloc();
-    let mut host = MemHost::new(alloc, Calls::new(alloc));
-    let document = comments(alloc, 67_108_865)?;
-    assert_eq!(rt;
-        answer(alloc, document, Calls::new(alloc), &mut host)?,
-        Status::InputTooLarge
-    );
-    assert_eq!(rt; host.calls(), 0);
-    Ok(())
 }
 
 // A document whose first line is a comment of so many bytes.
@@ -406,23 +367,23 @@ fn behind_a_comment(alloc: Global, length: usize) -> Result<Bytes, Fail> {
 }
 
 #[test]
-fn a_line_has_4096_bytes_at_most(rt: HostRuntime) -> Result<(), Fail> {
+fn lines_and_inputs_have_their_limits(rt: HostRuntime) -> Result<(), Fail> {
     let alloc = rt.alloc();
-    let rows = [
+    let too_long = Status::Refused { code: 2, line: 1 };
+    for (length, want) in [
         (4095, Status::Done),
         (4096, Status::Done),
-        (4097, Status::Refused { code: 2, line: 1 }),
-        (70_000, Status::Refused { code: 2, line: 1 }),
-    ];
-    for (length, want) in rows {
-        let mut host = MemHost::new(alloc, Calls::new(alloc));
-        let document = behind_a_comment(alloc, length)?;
-        assert_eq!(rt;
-            answer(alloc, document, Calls::new(alloc), &mut host)?,
-            want
-        );
+        (4097, too_long),
+        (70_000, too_long),
+    ] {
+        ends(&rt, alloc, behind_a_comment(alloc, length)?, want, b"")?;
     }
-    Ok(())
+    let unasked = Status::Refused {
+        code: 1,
+        line: 16_385,
+    };
+    ends(&rt, alloc, comments(alloc, 67_108_864)?, unasked, b"")?;
+    ends(&rt, alloc, comments(alloc, 67_108_865)?, Status::InputTooLarge, b"")
 }
 
 // A document with so many individuals, of which the first one has a fact more.
@@ -433,28 +394,6 @@ fn individuals(alloc: Global, count: u32) -> Result<Bytes, Fail> {
     }
     text.extend_from_slice(b"fact B x0\nask q(?x) :- B(?x)\n")?;
     Ok(Bytes::from_slice(alloc, &text)?)
-}
-
-#[test]
-fn individuals_are_65536_at_most(rt: HostRuntime) -> Result<(), Fail> {
-    let alloc = rt.alloc();
-    let mut host = MemHost::new(alloc, Calls::new(alloc));
-    let document = individuals(alloc, 65_536)?;
-    assert_eq!(rt;
-        answer(alloc, document, Calls::new(alloc), &mut host)?,
-        Status::Done
-    );
-    assert!(rt; host.printed().items().ends_with(b"end 65536\n"));
-    let document = individuals(alloc, 65_537)?;
-    let refused = Status::Refused {
-        code: 11,
-        line: 65_538,
-    };
-    assert_eq!(rt;
-        answer(alloc, document, Calls::new(alloc), &mut host)?,
-        refused
-    );
-    Ok(())
 }
 
 // A document with so many rows of a role.
@@ -471,28 +410,6 @@ fn edges(alloc: Global, count: u32) -> Result<Bytes, Fail> {
     Ok(Bytes::from_slice(alloc, &text)?)
 }
 
-#[test]
-fn rows_are_1000000_at_most(rt: HostRuntime) -> Result<(), Fail> {
-    let alloc = rt.alloc();
-    let mut host = MemHost::new(alloc, Calls::new(alloc));
-    let document = edges(alloc, 1_000_000)?;
-    assert_eq!(rt;
-        answer(alloc, document, Calls::new(alloc), &mut host)?,
-        Status::Done
-    );
-    assert!(rt; host.printed().items().ends_with(b"end 1000\n"));
-    let document = edges(alloc, 1_000_001)?;
-    let refused = Status::Refused {
-        code: 11,
-        line: 1_000_002,
-    };
-    assert_eq!(rt;
-        answer(alloc, document, Calls::new(alloc), &mut host)?,
-        refused
-    );
-    Ok(())
-}
-
 // A document of so many axioms, each with a concept of its own.
 fn concepts(alloc: Global, count: u32) -> Result<Bytes, Fail> {
     let mut text = b"# concepts\n".to_vec(alloc)?;
@@ -504,20 +421,13 @@ fn concepts(alloc: Global, count: u32) -> Result<Bytes, Fail> {
 }
 
 #[test]
-fn concepts_are_512_at_most(rt: HostRuntime) -> Result<(), Fail> {
+fn bases_have_their_limits(rt: HostRuntime) -> Result<(), Fail> {
     let alloc = rt.alloc();
-    let mut host = MemHost::new(alloc, Calls::new(alloc));
-    let document = concepts(alloc, 512)?;
-    assert_eq!(rt;
-        answer(alloc, document, Calls::new(alloc), &mut host)?,
-        Status::Done
-    );
-    assert_eq!(rt; host.printed().items(), b"answer x\nend 1\n".as_slice());
-    let document = concepts(alloc, 513)?;
-    let refused = Status::Refused { code: 5, line: 514 };
-    assert_eq!(rt;
-        answer(alloc, document, Calls::new(alloc), &mut host)?,
-        refused
-    );
-    Ok(())
+    let refused = |code: u8, line: u64| Status::Refused { code, line };
+    ends(&rt, alloc, individuals(alloc, 65_536)?, Status::Done, b"end 65536\n")?;
+    ends(&rt, alloc, individuals(alloc, 65_537)?, refused(11, 65_538), b"")?;
+    ends(&rt, alloc, edges(alloc, 1_000_000)?, Status::Done, b"end 1000\n")?;
+    ends(&rt, alloc, edges(alloc, 1_000_001)?, refused(11, 1_000_002), b"")?;
+    ends(&rt, alloc, concepts(alloc, 512)?, Status::Done, b"answer x\nend 1\n")?;
+    ends(&rt, alloc, concepts(alloc, 513)?, refused(5, 514), b"")
 }

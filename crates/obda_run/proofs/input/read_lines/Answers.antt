@@ -62,7 +62,7 @@ pieces-preserved g c =
             subst (λ (l : List ℕ). IsReading (k.0 ++ l) c.take_piece.new.line c.in-Ok-take_piece.next) same
                 (c.in-Ok-take_piece.ensures k.0 (omega (arith, k.1, count, room, fits, ap length same)) k.2),
           );
-      later = omega (arith, c.pieces.invariant.later, c.in-Ok.ensures.cause.later);
+      faults = c.in-Ok.ensures.cause.done ∙ c.pieces.invariant.faults;
     }
 
 pub returns-then-count-eq0-clause-sound : goal.returns-then-count-eq0-clause-sound

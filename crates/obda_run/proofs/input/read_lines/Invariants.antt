@@ -11,7 +11,7 @@ invariant-pieces g l =
       room : length l.buffer ≡ 65536;
       reading : (input : List ℕ) → s.left l.fn.source ≡ Some input → Taken input l.taken (s.left l.source) l.line l.draft;
       kept : (read : List ℕ) × (length read ≡ l.taken) × IsReading read l.line l.draft;
-      later : s.read_faults l.fn.source ≤ s.read_faults l.source;
+      faults : s.read_faults l.source ≡ s.read_faults l.fn.source;
     }
 
 abbrev pub decreases-pieces : goal.decreases-pieces
