@@ -1,6 +1,6 @@
 // Documents and their replies, through the top call.
 use super::*;
-use host_io::{Bytes, Calls, MemHost, MemSource, Source, StdSource};
+use host_io::{Areas, Bytes, Calls, MemHost, MemSource, Source, StdSource};
 use std::alloc::Global;
 use std::io::{self, Read};
 use std::test::Fail;
@@ -268,7 +268,7 @@ fn answer(
 fn documents_have_their_replies(rt: HostRuntime) -> Result<(), Fail> {
     let alloc = rt.alloc();
     for (document, want, printed) in REPLIES {
-        let mut host = MemHost::new(alloc, Calls::new(alloc));
+        let mut host = MemHost::new(alloc, Areas::new(alloc), Calls::new(alloc));
         let document = Bytes::from_slice(alloc, document)?;
         assert_eq!(rt;
             answer(alloc, document, Calls::new(alloc), &mut host)?,
@@ -303,7 +303,7 @@ fn pieces_give_the_same(rt: HostRuntime) -> Result<(), Fail> {
     for (bytes, want, printed) in REPLIES {
         for size in [1, 2, 4095] {
             let mut source = StdSource::new(Pieces { bytes, size });
-            let mut host = MemHost::new(alloc, Calls::new(alloc));
+            let mut host = MemHost::new(alloc, Areas::new(alloc), Calls::new(alloc));
             assert_eq!(rt; serve(alloc, &words, &mut source, &mut host), want);
             assert_eq!(rt; host.printed().items(), printed);
         }
@@ -318,7 +318,7 @@ fn other_words_touch_nothing(rt: HostRuntime) -> Result<(), Fail> {
     for line in lines {
         let words = command_line(alloc, line)?;
         let mut source = MemSource::new(Bytes::from_slice(alloc, b"rest")?, Calls::new(alloc));
-        let mut host = MemHost::new(alloc, Calls::new(alloc));
+        let mut host = MemHost::new(alloc, Areas::new(alloc), Calls::new(alloc));
         assert_eq!(rt; serve(alloc, &words, &mut source, &mut host), Status::Usage);
         assert_eq!(rt; host.calls(), 0);
         let mut buf = [0u8; 8];
@@ -331,7 +331,7 @@ fn other_words_touch_nothing(rt: HostRuntime) -> Result<(), Fail> {
 fn a_first_read_that_fails_is_a_read_fault(rt: HostRuntime) -> Result<(), Fail> {
     let alloc = rt.alloc();
     let document = Bytes::from_slice(alloc, REPLIES[0].0)?;
-    let mut host = MemHost::new(alloc, Calls::new(alloc));
+    let mut host = MemHost::new(alloc, Areas::new(alloc), Calls::new(alloc));
     let fails = Calls::from_slice(alloc, &[1])?;
     assert_eq!(rt;
         answer(alloc, document, fails, &mut host)?,
@@ -345,7 +345,7 @@ fn a_first_read_that_fails_is_a_read_fault(rt: HostRuntime) -> Result<(), Fail> 
 fn a_first_print_that_fails_is_a_print_fault(rt: HostRuntime) -> Result<(), Fail> {
     let alloc = rt.alloc();
     let document = Bytes::from_slice(alloc, REPLIES[0].0)?;
-    let mut host = MemHost::new(alloc, Calls::from_slice(alloc, &[1])?);
+    let mut host = MemHost::new(alloc, Areas::new(alloc), Calls::from_slice(alloc, &[1])?);
     assert_eq!(rt;
         answer(alloc, document, Calls::new(alloc), &mut host)?,
         Status::PrintFault
@@ -367,7 +367,7 @@ fn comments(alloc: Global, length: u64) -> Result<Bytes, Fail> {
 #[test]
 fn an_input_is_not_too_large_at_the_limit(rt: HostRuntime) -> Result<(), Fail> {
     let alloc = rt.alloc();
-    let mut host = MemHost::new(alloc, Calls::new(alloc));
+    let mut host = MemHost::new(alloc, Areas::new(alloc), Calls::new(alloc));
     let document = comments(alloc, 67_108_864)?;
     let refused = Status::Refused {
         code: 1,
@@ -383,7 +383,7 @@ fn an_input_is_not_too_large_at_the_limit(rt: HostRuntime) -> Result<(), Fail> {
 #[test]
 fn an_input_is_too_large_behind_the_limit(rt: HostRuntime) -> Result<(), Fail> {
     let alloc = rt.alloc();
-    let mut host = MemHost::new(alloc, Calls::new(alloc));
+    let mut host = MemHost::new(alloc, Areas::new(alloc), Calls::new(alloc));
     let document = comments(alloc, 67_108_865)?;
     assert_eq!(rt;
         answer(alloc, document, Calls::new(alloc), &mut host)?,
@@ -415,7 +415,7 @@ fn a_line_has_4096_bytes_at_most(rt: HostRuntime) -> Result<(), Fail> {
         (70_000, Status::Refused { code: 2, line: 1 }),
     ];
     for (length, want) in rows {
-        let mut host = MemHost::new(alloc, Calls::new(alloc));
+        let mut host = MemHost::new(alloc, Areas::new(alloc), Calls::new(alloc));
         let document = behind_a_comment(alloc, length)?;
         assert_eq!(rt;
             answer(alloc, document, Calls::new(alloc), &mut host)?,
@@ -438,7 +438,7 @@ fn individuals(alloc: Global, count: u32) -> Result<Bytes, Fail> {
 #[test]
 fn individuals_are_65536_at_most(rt: HostRuntime) -> Result<(), Fail> {
     let alloc = rt.alloc();
-    let mut host = MemHost::new(alloc, Calls::new(alloc));
+    let mut host = MemHost::new(alloc, Areas::new(alloc), Calls::new(alloc));
     let document = individuals(alloc, 65_536)?;
     assert_eq!(rt;
         answer(alloc, document, Calls::new(alloc), &mut host)?,
@@ -474,7 +474,7 @@ fn edges(alloc: Global, count: u32) -> Result<Bytes, Fail> {
 #[test]
 fn rows_are_1000000_at_most(rt: HostRuntime) -> Result<(), Fail> {
     let alloc = rt.alloc();
-    let mut host = MemHost::new(alloc, Calls::new(alloc));
+    let mut host = MemHost::new(alloc, Areas::new(alloc), Calls::new(alloc));
     let document = edges(alloc, 1_000_000)?;
     assert_eq!(rt;
         answer(alloc, document, Calls::new(alloc), &mut host)?,
@@ -506,7 +506,7 @@ fn concepts(alloc: Global, count: u32) -> Result<Bytes, Fail> {
 #[test]
 fn concepts_are_512_at_most(rt: HostRuntime) -> Result<(), Fail> {
     let alloc = rt.alloc();
-    let mut host = MemHost::new(alloc, Calls::new(alloc));
+    let mut host = MemHost::new(alloc, Areas::new(alloc), Calls::new(alloc));
     let document = concepts(alloc, 512)?;
     assert_eq!(rt;
         answer(alloc, document, Calls::new(alloc), &mut host)?,
