@@ -1,3 +1,5 @@
-pub mod CauseLemmas
 pub mod SourceLemmas
-pub mod HostLemmas
+pub mod Moments
+pub mod Settled
+pub mod Replayed
+pub mod Stepped

@@ -1,4 +1,9 @@
 pub mod Causes
 pub mod Source
 pub mod Host
+pub mod Disk
+pub mod Moments
+pub mod Replay
 pub mod Memory
+pub mod Reached
+pub mod Untold

@@ -1,9 +1,13 @@
-//! What a program reads and where it prints, as traits, with hosts in memory and over std.
+//! What a program reads, where it prints and what it keeps on its disk, as traits, with hosts in memory and over std.
 //!
 //! A source and a host count their failures, so that a caller can tell a failure of theirs from its own.
-//! Where their bytes are told, contracts say which bytes were taken and printed.
+//! Where their bytes are told, contracts say which bytes were taken and printed, what an area reads as, and what a stop at
+//! any moment may leave.
 #![tactic(auto)]
 
+mod area_file;
+mod areas;
+mod call;
 mod counts;
 mod even_host;
 mod folder;
@@ -14,6 +18,8 @@ mod source;
 #[cfg(test)]
 mod tests;
 
+pub use areas::Areas;
+pub use call::Call;
 pub use even_host::EvenHost;
 pub use folder::FolderHost;
 pub use host::Host;

@@ -1,5 +1,6 @@
 // Each source and host through its public calls.
 use super::*;
+use crate::folder::print_all;
 use std::cell::Cell;
 use std::io::{Cursor, ErrorKind, Read};
 use std::test::Fail;
@@ -76,7 +77,7 @@ fn a_failed_read_of_a_reader_is_a_failure(rt: HostRuntime) {
 #[test]
 fn a_listed_print_fails_and_prints_nothing(rt: HostRuntime) -> Result<(), Fail> {
     let alloc = rt.alloc();
-    let mut host = MemHost::new(alloc, Calls::from_slice(alloc, &[1, 3])?);
+    let mut host = MemHost::new(alloc, Areas::new(alloc), Calls::from_slice(alloc, &[1, 3])?);
     assert_eq!(rt; host.print(b"a"), Err(Failed));
     assert_eq!(rt; host.print(b"bc"), Ok(()));
     assert_eq!(rt; host.print(b"d"), Err(Failed));
@@ -123,14 +124,13 @@ impl Print for Output {
 }
 
 #[test]
-fn a_folder_host_prints_until_the_output_refuses(rt: HostRuntime) {
+fn what_the_output_refuses_is_not_printed(rt: HostRuntime) {
     let output = Output { room: Cell::new(5) };
-    let mut host = FolderHost::new(&output);
-    assert_eq!(rt; host.print(b"end "), Ok(()));
+    assert!(rt; print_all(&output, b"end ").is_ok());
     assert_eq!(rt; output.room.get(), 1);
-    assert_eq!(rt; host.print(b"1\n"), Err(Failed));
+    assert!(rt; print_all(&output, b"1\n").is_err());
     assert_eq!(rt; output.room.get(), 1);
-    assert_eq!(rt; host.print(b"\n"), Ok(()));
+    assert!(rt; print_all(&output, b"\n").is_ok());
     assert_eq!(rt; output.room.get(), 0);
 }
 

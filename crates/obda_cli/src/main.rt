@@ -18,7 +18,7 @@ use std::alloc::AllocError;
 use std::env;
 use std::io::ErrorKind;
 use std::process::ExitCode;
-use std::rt::Env;
+use std::rt::{Env, Files};
 
 /// Runs the command that the words name, over standard input and standard output, writes the line of its ending to
 /// standard error, and ends with its number. A line that can't be written is given up: the number stays that of the
@@ -35,7 +35,7 @@ fn main(rt: HostRuntime) -> ExitCode {
 }
 
 /// Runs the command that these words name.
-fn run(rt: &(impl AllocGlobal + Input + Print), words: &Vec<String>) -> Status
+fn run(rt: &(impl AllocGlobal + Files + Input + Print), words: &Vec<String>) -> Status
     ensures usage { (result ≡ Usage) ↔ (IsAnswer (map string_bytes words.now.items) → ⊥) }
     ensures no_disk_fault { result ≢ DiskFault }
     ensures no_damage { (area at : ℕ) → result ≢ Damaged area at }
