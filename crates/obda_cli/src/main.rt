@@ -3,9 +3,10 @@
 
 ghost use Rattle.std.specs.Prelude.{◌≡◌, ◌≢◌, ◌↔◌, ◌⊎◌, ℕ, IfErr, map, string_bytes};
 ghost use Rattle.std.specs.Process.{exit_status};
+ghost use Rattle.host_io.specs.Causes.{Rose};
 ghost use Rattle.obda_run.specs.Run.{IsAnswer};
 ghost use Rattle.obda_run.specs.Status.{number_of};
-ghost use Rattle.obda_run.specs.declared.status.Status.TheVariants.{Usage, NoMemory, DiskFault, Damaged};
+ghost use Rattle.obda_run.specs.declared.status.Status.TheVariants.{Done, Usage, NoMemory, ReadFault, PrintFault, DiskFault, Damaged};
 
 mod status_line;
 #[cfg(test)]
@@ -14,9 +15,9 @@ mod tests;
 use host_io::{FolderHost, StdSource};
 use obda_run::{Status, serve};
 use status_line::StatusLine;
-use std::alloc::AllocError;
+use std::alloc::{AllocError, Global};
 use std::env;
-use std::io::ErrorKind;
+use std::io::{ErrorKind, Read};
 use std::process::ExitCode;
 use std::rt::{Env, Files};
 
@@ -24,8 +25,10 @@ use std::rt::{Env, Files};
 /// standard error, and ends with its number. A line that can't be written is given up: the number stays that of the
 /// ending.
 fn main(rt: HostRuntime) -> ExitCode {
+    let mut source = StdSource::new(rt.reader());
+    let mut host = FolderHost::new(&rt);
     let status = match words(&rt) {
-        Ok(words) => run(&rt, &words),
+        Ok(words) => run(rt.alloc(), &words, &mut source, &mut host),
         Err(status) => status,
     };
     if let Some(line) = StatusLine::of(status) {
@@ -34,15 +37,22 @@ fn main(rt: HostRuntime) -> ExitCode {
     exit_code(status)
 }
 
-/// Runs the command that these words name.
-fn run(rt: &(impl AllocGlobal + Files + Input + Print), words: &Vec<String>) -> Status
+/// Runs the command that these words name. The host is called for a reply alone: each other ending leaves it as it was.
+fn run<R: Read, F: Files + Print>(
+    alloc: Global,
+    words: &Vec<String>,
+    source: &mut StdSource<R>,
+    host: &mut FolderHost<F>,
+) -> Status
     ensures usage { (result ≡ Usage) ↔ (IsAnswer (map string_bytes words.now.items) → ⊥) }
+    ensures usage_reads_nothing { result ≡ Usage → source.new ≡ source.old }
+    ensures silent { result ≢ Done → result ≢ PrintFault → host.new ≡ host.old }
+    ensures read_fault { result ≡ ReadFault → Rose source.old.read_faults source.new.read_faults }
+    ensures print_fault { result ≡ PrintFault → Rose host.old.print_faults host.new.print_faults }
     ensures no_disk_fault { result ≢ DiskFault }
     ensures no_damage { (area at : ℕ) → result ≢ Damaged area at }
 {
-    let mut source = StdSource::new(rt.reader());
-    let mut host = FolderHost::new(rt);
-    serve(rt.alloc(), words, &mut source, &mut host)
+    serve(alloc, words, source, host)
 }
 
 /// The words after the program's name, or how the program ends without them.
