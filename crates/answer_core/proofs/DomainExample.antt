@@ -19,7 +19,7 @@ use Rattle.dl_base.specs.declared.query.Term.TheVariants as term
 use Rattle.dl_base.specs.declared.query.Atom.{Atom}
 use Rattle.dl_base.specs.declared.query.Atom.TheVariants as atom
 use Rattle.dl_base.proofs.DerivationLemmas.{least, IsClosed}
-use Rattle.dl_base.proofs.Examples.{only_item, first_item}
+use Rattle.dl_base.proofs.Examples.{only_item, first_item, only_variable, x_is_variable}
 use Rattle.answer_core.specs.AnswerLaws.{AIsInA, HasNoSuccessorHead, domain_of_r, a_has_b, who_is_in_a}
 use Rattle.answer_core.proofs.KeyLemmas.{keys_are_certain}
 
@@ -120,6 +120,7 @@ is_query = record {
   answers = omega arith;
   distinct = record { few = x ∷ []; count = omega arith; each = All-cons (Contains (x ∷ [])) x [] (first_item x []) (All-nil (Contains (x ∷ []))) };
   safe = All-cons (λ v. Contains (terms who_is_in_a) (term.Var v)) (codes "x") [] (first_item x []) (All-nil (λ v. Contains (terms who_is_in_a) (term.Var v)));
+  variables = only_variable (codes "x") x_is_variable;
 }
   where
     x : Term

@@ -17,7 +17,7 @@ use Rattle.query_shape.specs.Shape.{Layout, IsLayout, IsShapeMatch, HoldsAt, IsT
 use Rattle.query_shape.specs.declared.layout.ShapeAtom.{ShapeAtom}
 use Rattle.query_shape.specs.declared.layout.ShapeAtom.TheVariants as shape
 use Rattle.join_ops.specs.Joins.{SearchPlace, Start, Behind, End, IsBehind}
-use Rattle.answer_core.proofs.KeyLemmas.{flat_there}
+use Rattle.dl_base.proofs.PlaceLemmas.{flat_there, map_contains}
 
 -- the elements of a row, and of all rows
 abbrev row_elements : TableRow → List Elem
@@ -32,20 +32,13 @@ abbrev pub tuples : List Elem → List Term → List (List Elem)
 tuples es [] = [] ∷ []
 tuples es (t ∷ ts) = flat_map (λ e. map (λ xs. e ∷ xs) (tuples es ts)) es
 
-map_there : {X Y : Type 0} (f : X → Y) (xs : List X) (x : X) → Contains xs x → Contains (map f xs) (f x)
-map_there f [] x c = absurd (omega (arith, c.1))
-map_there f (y ∷ ys) x c = elim (contains_cases y ys x c) [
-  | inl e ↦ subst (λ z. Contains (f y ∷ map f ys) (f z)) (sym e) (contains_first (f y) (map f ys))
-  | inr d ↦ contains_later (f y) (map f ys) (f x) (map_there f ys x d)
-]
-
 in_tuples : (es : List Elem) (ts : List Term) (xs : List Elem) → length xs ≡ length ts → AllByRecursion (Contains es) xs → Contains (tuples es ts) xs
 in_tuples es [] [] long all = contains_first [] []
 in_tuples es [] (x ∷ xs) long all = absurd (omega (arith, long))
 in_tuples es (t ∷ ts) [] long all = absurd (omega (arith, long))
 in_tuples es (t ∷ ts) (x ∷ xs) long all =
     flat_there (λ e. map (λ ys. e ∷ ys) (tuples es ts)) es x (x ∷ xs) all.0
-    (map_there (λ ys. x ∷ ys) (tuples es ts) xs (in_tuples es ts xs (omega (arith, long)) all.1))
+    (map_contains (λ ys. x ∷ ys) (tuples es ts) xs (in_tuples es ts xs (omega (arith, long)) all.1))
 
 turned_has : (table : List TableRow) (turned : Bool) (p : ℕ) (e f : Elem) → Contains table (turned_row turned p e f) → Contains (elements table) e × Contains (elements table) f
 turned_has table false p e f c = (flat_there row_elements table (RoleRow p e f) e c (contains_first e (f ∷ [])), flat_there row_elements table (RoleRow p e f) f c (contains_later e (f ∷ []) f (contains_first f [])))

@@ -4,7 +4,8 @@ use Rattle.std.proofs.lemmas.Option.{slice_get-get_or, slice_get_within, get_or_
 use Rattle.dl_base.specs.declared.element.Elem.{Elem}
 use Rattle.dl_base.specs.declared.element.Elem.TheVariants as elem
 use Rattle.answer_core.specs.Found.{IsOf, Stands, AllStand, AddsKey}
-use Rattle.answer_core.proofs.ListLemmas.{some_same, zip_each, zip_at}
+use Rattle.answer_core.proofs.ListLemmas.{zip_each, zip_at}
+use Rattle.dl_base.proofs.PlaceLemmas.{some_same}
 
 -- the image at a place
 pub stands_here : (images : List Elem) (count p n : ℕ) (d : Elem) → p < length images → IsOf count (get_or images p d) n → Stands images count p n

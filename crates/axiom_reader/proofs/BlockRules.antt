@@ -8,7 +8,7 @@ use Rattle.grammar.specs.Grammar.{means}
 use Rattle.grammar.specs.Reading.{next_is, run_len, run_at, blanks_at}
 use Rattle.grammar.proofs.Exact.{SameHead-refl, Nothing}
 use Rattle.grammar.proofs.Parts.{Every, Every-middle, run_at-run, run_only}
-use Rattle.grammar.proofs.Rules.{Reads, FirstIs, first_then, reads_stop, reads_any, reads_blanks, reads_means}
+use Rattle.grammar.proofs.Rules.{Reads, FirstIs, first_then, reads_stop, reads_any, reads_blanks, reads_means, first_nothing}
 use Rattle.dl_base.specs.Ontology.{Terminology}
 use Rattle.dl_base.specs.Axiom.{Statement, Extends}
 use Rattle.dl_base.specs.declared.ontology.ExtendError.TheVariants.{TooMany}
@@ -21,9 +21,6 @@ use Rattle.axiom_reader.proofs.FormRules.{reads_axiom, first_axiom}
 use Rattle.axiom_reader.proofs.MeaningRules.{has_members}
 
 -- ---- what a line holds
-
-first_nothing : {V : Type 0} {v : V} {p : ℕ → Bool} → FirstIs (means v) Nothing p false
-first_nothing {V} {v} {p} = record { is = λ t w k s f. ap (λ (x : List ℕ). next_is p (x ++ k)) s.0 ∙ ap (next_is p) f }
 
 pub reads_line : {text : List ℕ} → Reads padded_axiom Nothing text (line_at text)
 unfolding line_at

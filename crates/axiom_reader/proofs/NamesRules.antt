@@ -63,9 +63,3 @@ adds_more f g xs old now new i d lt a so_far = record {
   concepts = along f xs (with_names old.concepts (flat_map f xs)) now.concepts new.concepts i d lt a.concepts so_far.concepts;
   roles = along g xs (with_names old.roles (flat_map g xs)) now.roles new.roles i d lt a.roles so_far.roles;
 }
-
-pub adds_all : {X : Type 0} (f g : X → List (List ℕ)) (xs : List X) (old now : Vocabulary) (i : ℕ) → length xs ≤ i → AddsAlong f g xs old now i → AddsNames old (flat_map f xs) (flat_map g xs) now
-adds_all {X} f g xs old now i le so_far = record {
-  concepts = sym (at_drop_all (λ (ys : List X). with_names now.concepts (flat_map f ys)) xs i le) ∙ so_far.concepts;
-  roles = sym (at_drop_all (λ (ys : List X). with_names now.roles (flat_map g ys)) xs i le) ∙ so_far.roles;
-}

@@ -5,7 +5,7 @@ use Rattle.std.proofs.lemmas.List.{get_or_default, at_drop_more, take-append-dro
 use Rattle.std.proofs.lemmas.List.Elements.{All-push, All-weaker, All-nil, All-contains, Contains-append_left, Contains-push}
 use Rattle.std.proofs.lemmas.List.Quantifiers.{all_pairs_push}
 use Rattle.std.proofs.lemmas.Grind.{flat_map-append}
-use Rattle.dl_base.specs.Query.{Question, IsQuery, terms, terms_of}
+use Rattle.dl_base.specs.Query.{Question, HasBareVariables, IsQuery, terms, terms_of}
 use Rattle.dl_base.specs.declared.query.Term.TheVariants.{Var}
 use Rattle.dl_base.specs.declared.query.Term.{Term}
 use Rattle.dl_base.specs.declared.query.Atom.{Atom}
@@ -59,13 +59,14 @@ module _ (q : Question) (found : List Term) (a : AreDistinctOf (terms q) found) 
   bound_of : (v : List ℕ) → Contains found (Var v) → Contains (terms q) (Var v)
   bound_of v there = All-contains (Contains (terms q)) found (Var v) a.within there
 
-  pub query_of : IsSmall q → 1 ≤ length q.atoms → All (λ v. Contains found (Var v)) q.answers → IsQuery q
-  query_of small some bound = record {
+  pub query_of : IsSmall q → 1 ≤ length q.atoms → HasBareVariables q → All (λ v. Contains found (Var v)) q.answers → IsQuery q
+  query_of small some bare bound = record {
     some = some;
     atoms = small.atoms;
     answers = small.answers;
     distinct = small.terms;
     safe = All-weaker (λ v. Contains found (Var v)) (λ v. Contains (terms q) (Var v)) bound_of q.answers bound;
+    variables = bare;
   }
 
   pub unbound_of : (i : ℕ) (v : List ℕ) → i < length q.answers → v ≡ get_or q.answers i v → All (λ v. Contains found (Var v)) (take i q.answers) → HoldsAt (λ v. Contains found (Var v) → ⊥) q.answers i → IsFirstUnbound q v

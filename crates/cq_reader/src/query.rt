@@ -2,7 +2,7 @@
 
 ghost use Rattle.std.specs.Prelude.{◌≡◌, ◌≤◌, IfOk, IfErr, length};
 ghost use Rattle.grammar.specs.Reading.{Gives, whole};
-ghost use Rattle.dl_base.specs.Query.{IsQuery};
+ghost use Rattle.dl_base.specs.Query.{HasBareVariables, IsQuery};
 ghost use Rattle.cq_reader.specs.QueryReading.{query_at};
 ghost use Rattle.cq_reader.specs.QueryFault.{MeansQuery, IsRefused, IsUnfit};
 ghost use Rattle.cq_reader.specs.declared.query.QueryError.TheVariants.{NoMemory};
@@ -77,7 +77,8 @@ fn whole_draft(alloc: Global, text: &[u8]) -> Result<Draft, ReadError>
 
 /// The query, where it is within the limits and each answer variable is in an atom.
 fn fitting(alloc: Global, draft: Draft) -> Result<Query, QueryError>
-    requires { 1 ≤ length draft.atoms }
+    requires some { 1 ≤ length draft.atoms }
+    requires variables { HasBareVariables (record { answers = draft.answers; atoms = draft.atoms }) }
     ensures found { IfOk result (λ q. (q ≡ record { answers = draft.answers; atoms = draft.atoms }) × IsQuery q) }
     ensures refused { IfErr result (λ e. IsUnfit (record { answers = draft.answers; atoms = draft.atoms }) e) }
 {

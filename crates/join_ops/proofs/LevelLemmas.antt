@@ -6,6 +6,7 @@ use Rattle.std.specs.declared.cmp.Ordering.TheVariants.{Greater}
 use Rattle.dl_base.specs.Tables.{TableRow, IsAbove, IsLeastAbove, elem_cmp}
 use Rattle.dl_base.specs.declared.element.Elem.{Elem}
 use Rattle.dl_base.specs.declared.element.Elem.TheVariants as elem
+use Rattle.dl_base.proofs.PlaceLemmas.{place_stays}
 use Rattle.query_shape.specs.Shape.{HoldsAt, IsBelow}
 use Rattle.query_shape.specs.declared.layout.ShapeAtom.{ShapeAtom}
 use Rattle.query_shape.specs.declared.layout.ShapeAtom.TheVariants as shape
@@ -21,11 +22,6 @@ get_front [] ys k below = absurd (omega arith)
 get_front (x ∷ xs) ys zero below = refl
 get_front (x ∷ xs) ys (suc k) below = get_front xs ys k (omega arith)
 
-pub get_more : {X : Type 0} (xs ys : List X) (k : ℕ) (x : X) → slice_get xs k ≡ Some x → slice_get (xs ++ ys) k ≡ Some x
-get_more [] ys k x at = absurd cc
-get_more (y ∷ xs) ys zero x at = at
-get_more (y ∷ xs) ys (suc k) x at = get_more xs ys k x at
-
 pub get_at : {X : Type 0} (xs : List X) (x : X) (ys : List X) → slice_get (xs ++ x ∷ ys) (length xs) ≡ Some x
 get_at [] x ys = refl
 get_at (y ∷ xs) x ys = get_at xs x ys
@@ -39,8 +35,8 @@ holds_front table xs ys (shape.Concept c n) below h = (h.0, sym (get_front xs ys
 holds_front table xs ys (shape.Role r n m) below h = (h.0, h.1, sym (get_front xs ys n below.0) ∙ h.2, sym (get_front xs ys m below.1) ∙ h.3, h.4)
 
 pub holds_more : (table : List TableRow) (xs ys : List Elem) (a : ShapeAtom) → HoldsAt table xs a → HoldsAt table (xs ++ ys) a
-holds_more table xs ys (shape.Concept c n) h = (h.0, get_more xs ys n h.0 h.1, h.2)
-holds_more table xs ys (shape.Role r n m) h = (h.0, h.1, get_more xs ys n h.0 h.2, get_more xs ys m h.1 h.3, h.4)
+holds_more table xs ys (shape.Concept c n) h = (h.0, place_stays xs ys n h.0 h.1, h.2)
+holds_more table xs ys (shape.Role r n m) h = (h.0, h.1, place_stays xs ys n h.0 h.2, place_stays xs ys m h.1 h.3, h.4)
 
 below_more : (k j : ℕ) (a : ShapeAtom) → k ≤ j → IsBelow k a → IsBelow j a
 below_more k j (shape.Concept c n) more below = omega arith
@@ -130,7 +126,7 @@ module _ (table : List TableRow) (atoms : List ShapeAtom) (sources : List Source
       term k n below fixed = by (last_or k (length front) below)
         where
           by : (k < length front) ⊎ (length front ≡ k) → slice_get (front ++ e ∷ []) k ≡ Some (elem.Named n)
-          by (inl less) = get_more front (e ∷ []) k (elem.Named n) (is.fixed_are k n less fixed)
+          by (inl less) = place_stays front (e ∷ []) k (elem.Named n) (is.fixed_are k n less fixed)
           by (inr same) =
               let there : slice_get (map fixed_of sources) (length front) ≡ Some (Some n) = ap (λ (j : ℕ). slice_get (map fixed_of sources) j) same ∙ fixed in
               let known = fixed_at sources (length front) s at in

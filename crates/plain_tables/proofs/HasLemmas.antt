@@ -17,7 +17,7 @@ use Rattle.plain_tables.specs.Search.{IsEdgeSource}
 use Rattle.plain_tables.specs.declared.rows.Member.{Member}
 use Rattle.plain_tables.specs.declared.rows.Edge.{Edge}
 use Rattle.plain_tables.proofs.OrderLemmas.{member_less}
-use Rattle.plain_tables.proofs.CountLemmas.{map_contains, map_from}
+use Rattle.dl_base.proofs.PlaceLemmas.{map_contains, map_from}
 use Rattle.plain_tables.proofs.LeastLemmas.{concept_are, source_are}
 
 -- what rising rows give is distinct, where it is so of each two

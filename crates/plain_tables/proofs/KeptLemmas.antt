@@ -15,7 +15,7 @@ use Rattle.dl_base.proofs.RisingLemmas.{contains_cases, contains_first, contains
 use Rattle.plain_tables.specs.Kept.{AreMembers, AreEdges, AreKept, back, edge_cmp, edge_of, member_cmp, member_of, member_row, row_of_edge, rows_of, table_row}
 use Rattle.plain_tables.specs.declared.rows.Member.{Member}
 use Rattle.plain_tables.specs.declared.rows.Edge.{Edge}
-use Rattle.plain_tables.proofs.CountLemmas.{map_contains, map_from}
+use Rattle.dl_base.proofs.PlaceLemmas.{map_contains, map_from}
 use Rattle.plain_tables.proofs.HasLemmas.{map_apart}
 use Rattle.plain_tables.proofs.OrderLemmas.{member_total, edge_total}
 

@@ -21,7 +21,7 @@ use Rattle.query_shape.specs.ShapeLaws.{SameMatches, EachPlacing, ShapeOnce, XIs
 use Rattle.query_shape.specs.declared.layout.ShapeAtom.{ShapeAtom}
 use Rattle.query_shape.specs.declared.layout.ShapeAtom.TheVariants as shape
 use Rattle.query_shape.proofs.NumberingLemmas.{occur_distinct}
-use Rattle.query_shape.proofs.PlaceLemmas.{one_place, zip_left, zip_right, distinct_head, distinct_tail}
+use Rattle.dl_base.proofs.PlaceLemmas.{one_place, zip_left, zip_right, distinct_head, distinct_tail}
 
 -- ---- rows at the images of terms
 

@@ -21,7 +21,7 @@ use Rattle.query_shape.specs.declared.layout.ShapeAtom.{ShapeAtom}
 use Rattle.query_shape.specs.declared.numbering.ShapeError.{ShapeError}
 use Rattle.query_shape.specs.declared.numbering.ShapeError.TheVariants as errors
 use Rattle.query_shape.specs.declared.layout.ShapeAtom.TheVariants as shape
-use Rattle.query_shape.proofs.PlaceLemmas.{member_at, none_past, place_stays, last_place, one_place, no_more, zip_push, zip_weaker, zip_length}
+use Rattle.dl_base.proofs.PlaceLemmas.{member_at, none_past, place_stays, last_place, one_place, no_more, zip_push, zip_weaker, zip_length}
 
 -- ---- one term
 
@@ -38,13 +38,6 @@ occur_with all old new t (inr (is, absent)) o = rw is (new_term t o absent)
 added_with : (old new : List Term) (t : Term) → IsWith old t new → (added : List Term) × (new ≡ old ++ added)
 added_with old new t (inl (same, there)) = ([], same ∙ sym (append-nil old))
 added_with old new t (inr (is, absent)) = (t ∷ [], is)
-
-pub grown_by_one : (old new : List Term) (t : Term) (n : ℕ) → NumbersTerm old t new n → length new ≤ length old + 1
-grown_by_one old new t n i = by i.with_it
-  where
-    by : IsWith old t new → length new ≤ length old + 1
-    by (inl (same, there)) = rw same (omega arith)
-    by (inr (is, absent)) = rw is (rw length-append (omega arith))
 
 -- ---- one atom
 
@@ -137,7 +130,7 @@ few_terms o atoms k ts ss h =
 
 -- ---- members
 
-occur_from : {all distinct : List Term} → Occur all distinct → (t : Term) → Contains distinct t → Contains all t
+pub occur_from : {all distinct : List Term} → Occur all distinct → (t : Term) → Contains distinct t → Contains all t
 occur_from no_term t c = c
 occur_from (known_term {all = before} {distinct = kept} u o there) t c = Contains-append_left before (u ∷ []) t (occur_from o t c)
 occur_from (new_term {all = before} {distinct = kept} u o absent) t c = by (Contains-push_cases kept u t c) (λ d. occur_from o t d)
@@ -221,7 +214,7 @@ layout_of o q s is h =
 
 -- ---- names that the ontology lacks
 
-known_of : (o : Terminology) (ts : List Term) (a : Atom) (s : ShapeAtom) → NumbersAtom o ts a s → IsKnown o a
+pub known_of : (o : Terminology) (ts : List Term) (a : Atom) (s : ShapeAtom) → NumbersAtom o ts a s → IsKnown o a
 known_of o ts (atom.Concept name u) (shape.Concept c n) h = member_at o.concepts c name h.0
 known_of o ts (atom.Role name u v) (shape.Role r n m) h = member_at o.roles r.name name h.0
 known_of o ts (atom.Concept name u) (shape.Role r n m) h = absurd h
