@@ -1,0 +1,5 @@
+pub mod InOrder
+pub mod RowOrder
+pub mod MentionLemmas
+pub mod CountLemmas
+pub mod SearchLemmas
