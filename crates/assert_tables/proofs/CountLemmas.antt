@@ -8,10 +8,10 @@ use Rattle.std.specs.List.Sorted.{IsStrictlySortedBy}
 use Rattle.std.proofs.lemmas.Cmp.{nat_cmp_total, tied_itself}
 use Rattle.dl_base.specs.declared.row.Row.{Row}
 use Rattle.dl_base.proofs.RisingLemmas.{Adds, nat_same, same_rising, contains_cases, contains_first, contains_later}
-use Rattle.dl_base.proofs.RowLemmas.{none_rising}
-use Rattle.assert_tables.specs.Rows.{AreRisingRows, Gains, IsNamedIn, IsCountOfNew, IsNewcomer, Loses, first_of, individuals_of, last_of, numbers_cmp, with_individuals}
-use Rattle.assert_tables.proofs.InOrder.{insert_again, insert_adds, insert_longer, insert_most, insert_rises}
-use Rattle.assert_tables.proofs.RowOrder.{numbers_total, numbers_same}
+use Rattle.dl_base.proofs.RowLemmas.{none_rising, numbered_total, numbered_same}
+use Rattle.assert_tables.specs.Rows.{AreRisingRows, Gains, IsNamedIn, IsCountOfNew, IsNewcomer, Loses, first_of, individuals_of, last_of, with_individuals}
+use Rattle.dl_base.specs.Rows.{numbered_row_cmp}
+use Rattle.dl_base.proofs.InOrder.{insert_again, insert_adds, insert_longer, insert_most, insert_rises}
 
 names_add : (names : List ℕ) (a : ℕ) → Adds a names (insert_key nat_cmp names a)
 names_add names a = insert_adds nat_cmp nat_cmp_total nat_same a names
@@ -81,23 +81,23 @@ gains_individuals r old new gains =
         let w : (q : Row) × Contains old q × IsNamedIn a q = individual_named old a c in
         named_individual new w.0 a ((gains.each w.0).1 (inr w.1)) w.2
 
-gains_list : (r : Row) (old new : List Row) → AreRisingRows old → Gains r old new → new ≡ insert_key numbers_cmp old r
+gains_list : (r : Row) (old new : List Row) → AreRisingRows old → Gains r old new → new ≡ insert_key numbered_row_cmp old r
 gains_list r old new rising gains =
-    let adds : Adds r old (insert_key numbers_cmp old r) = insert_adds numbers_cmp numbers_total numbers_same r old in
-    same_rising numbers_cmp numbers_total numbers_same new (insert_key numbers_cmp old r) gains.rising
-    (insert_rises numbers_cmp numbers_total numbers_same r old rising)
-    (λ q c. elim ((gains.each q).0 c) [ inl e ↦ subst (Contains (insert_key numbers_cmp old r)) (sym e) adds.there | inr d ↦ adds.stays q d ])
+    let adds : Adds r old (insert_key numbered_row_cmp old r) = insert_adds numbered_row_cmp numbered_total numbered_same r old in
+    same_rising numbered_row_cmp numbered_total numbered_same new (insert_key numbered_row_cmp old r) gains.rising
+    (insert_rises numbered_row_cmp numbered_total numbered_same r old rising)
+    (λ q c. elim ((gains.each q).0 c) [ inl e ↦ subst (Contains (insert_key numbered_row_cmp old r)) (sym e) adds.there | inr d ↦ adds.stays q d ])
     (λ q c. (gains.each q).1 (adds.each q c))
 
 -- a new row is one more
 gains_one : (r : Row) (old new : List Row) → AreRisingRows old → Gains r old new → (Contains old r → ⊥) → length new ≡ 1 + length old
 gains_one r old new rising gains absent =
-    ap (λ (rows : List Row). length rows) (gains_list r old new rising gains) ∙ insert_longer numbers_cmp numbers_total numbers_same r old absent
+    ap (λ (rows : List Row). length rows) (gains_list r old new rising gains) ∙ insert_longer numbered_row_cmp numbered_total numbered_same r old absent
 
 -- and one that was there changes nothing
 pub gains_none : (r : Row) (old new : List Row) → AreRisingRows old → Gains r old new → Contains old r → new ≡ old
 gains_none r old new rising gains there =
-    gains_list r old new rising gains ∙ insert_again numbers_cmp numbers_total numbers_same r old rising there
+    gains_list r old new rising gains ∙ insert_again numbered_row_cmp numbered_total numbered_same r old rising there
 
 -- what lost a row gains it again
 loses_gains : (r : Row) (old new : List Row) → AreRisingRows old → Loses r old new → Contains old r → Gains r new old
@@ -107,19 +107,19 @@ loses_gains r old new rising loses there = record {
 }
   where
     into : (q : Row) → Contains old q → (q ≡ r) ⊎ Contains new q
-    into q c = by (numbers_cmp q r) refl
+    into q c = by (numbered_row_cmp q r) refl
       where
-        apart : (o : Ordering) → numbers_cmp q r ≡ o → o ≢ Equal → q ≢ r
-        apart o is other e = other (sym is ∙ subst (λ (w : Row). numbers_cmp q w ≡ Equal) e (tied_itself numbers_total q))
+        apart : (o : Ordering) → numbered_row_cmp q r ≡ o → o ≢ Equal → q ≢ r
+        apart o is other e = other (sym is ∙ subst (λ (w : Row). numbered_row_cmp q w ≡ Equal) e (tied_itself numbered_total q))
 
-        by : (o : Ordering) → numbers_cmp q r ≡ o → (q ≡ r) ⊎ Contains new q
+        by : (o : Ordering) → numbered_row_cmp q r ≡ o → (q ≡ r) ⊎ Contains new q
         by Less is = inr ((loses.each q).1 (apart Less is (λ e. absurd cc), c))
-        by Equal is = inl (numbers_same q r is)
+        by Equal is = inl (numbered_same q r is)
         by Greater is = inr ((loses.each q).1 (apart Greater is (λ e. absurd cc), c))
 
 pub loses_none : (r : Row) (old new : List Row) → AreRisingRows old → Loses r old new → (Contains old r → ⊥) → new ≡ old
 loses_none r old new rising loses absent =
-    same_rising numbers_cmp numbers_total numbers_same new old loses.rising rising
+    same_rising numbered_row_cmp numbered_total numbered_same new old loses.rising rising
     (λ q c. ((loses.each q).0 c).1)
     (λ q c. (loses.each q).1 (λ e. absent (subst (Contains old) e c), c))
 

@@ -1,4 +1,3 @@
-pub mod InOrder
 pub mod RowOrder
 pub mod MentionLemmas
 pub mod CountLemmas

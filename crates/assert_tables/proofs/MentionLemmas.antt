@@ -9,27 +9,28 @@ use Rattle.std.specs.Ordering.{is_eq}
 use Rattle.std.proofs.lemmas.Cmp.{tied_itself}
 use Rattle.std.proofs.lemmas.Map.Views.{btree_set_contains_iff}
 use Rattle.dl_base.specs.declared.row.Row.{Row}
-use Rattle.assert_tables.specs.Rows.{AreRisingRows, Gains, IsNamedIn, Loses, first_of, last_of, numbers_cmp}
+use Rattle.assert_tables.specs.Rows.{AreRisingRows, Gains, IsNamedIn, Loses, first_of, last_of}
+use Rattle.dl_base.specs.Rows.{numbered_row_cmp}
 use Rattle.assert_tables.specs.Mentions.{AreMentions, rows_of}
 use Rattle.assert_tables.specs.contracts.row_set.MentionOrd.TheImpl.{cmp-value as mention_order}
 use Rattle.assert_tables.specs.contracts.row_set.MentionOrd.TheImpl.Laws as mention_laws
 use Rattle.assert_tables.specs.declared.row_set.Mention.{Mention}
 use Rattle.dl_base.proofs.RisingLemmas.{Adds, contains_cases, contains_first, contains_later, same_rising}
-use Rattle.dl_base.proofs.RowLemmas.{none_rising}
-use Rattle.assert_tables.proofs.InOrder.{insert_adds, insert_most, insert_rises}
-use Rattle.assert_tables.proofs.RowOrder.{mention_exact, numbers_total, numbers_same}
+use Rattle.dl_base.proofs.RowLemmas.{none_rising, numbered_total, numbered_same}
+use Rattle.dl_base.proofs.InOrder.{insert_adds, insert_most, insert_rises}
+use Rattle.assert_tables.proofs.RowOrder.{mention_exact}
 
 -- a row beside an individual
 abbrev pub mention : ℕ → Row → Mention
 mention a r = record { individual = a; row = r }
 
 pub rows_rise : (ms : List Mention) → AreRisingRows (rows_of ms)
-rows_rise [] = none_rising numbers_cmp
-rows_rise (m ∷ ms) = insert_rises numbers_cmp numbers_total numbers_same m.row (rows_of ms) (rows_rise ms)
+rows_rise [] = none_rising numbered_row_cmp
+rows_rise (m ∷ ms) = insert_rises numbered_row_cmp numbered_total numbered_same m.row (rows_of ms) (rows_rise ms)
 
 pub mentioned : (ms : List Mention) (r : Row) → Contains (rows_of ms) r → (m : Mention) × Contains ms m × (m.row ≡ r)
 mentioned [] r c = absurd (omega (arith, c.1))
-mentioned (m ∷ ms) r c = by (mentioned ms r) ((insert_adds numbers_cmp numbers_total numbers_same m.row (rows_of ms)).each r c)
+mentioned (m ∷ ms) r c = by (mentioned ms r) ((insert_adds numbered_row_cmp numbered_total numbered_same m.row (rows_of ms)).each r c)
   where
     by : (Contains (rows_of ms) r → (n : Mention) × Contains ms n × (n.row ≡ r))
         → (r ≡ m.row) ⊎ Contains (rows_of ms) r → (n : Mention) × Contains (m ∷ ms) n × (n.row ≡ r)
@@ -39,7 +40,7 @@ mentioned (m ∷ ms) r c = by (mentioned ms r) ((insert_adds numbers_cmp numbers
 pub mention_counts : (ms : List Mention) (m : Mention) → Contains ms m → Contains (rows_of ms) m.row
 mention_counts [] m c = absurd (omega (arith, c.1))
 mention_counts (n ∷ ms) m c =
-    let adds : Adds n.row (rows_of ms) (rows_of (n ∷ ms)) = insert_adds numbers_cmp numbers_total numbers_same n.row (rows_of ms) in
+    let adds : Adds n.row (rows_of ms) (rows_of (n ∷ ms)) = insert_adds numbered_row_cmp numbered_total numbered_same n.row (rows_of ms) in
     elim (contains_cases n ms m c) [
       | inl e ↦ subst (λ (w : Mention). Contains (rows_of (n ∷ ms)) w.row) (sym e) adds.there
       | inr d ↦ adds.stays m.row (mention_counts ms m d)
@@ -204,7 +205,7 @@ same_are old new same are = record {
 
 pub same_rows : (old new : List Mention) → ((m : Mention) → Contains new m ↔ Contains old m) → rows_of new ≡ rows_of old
 same_rows old new same =
-    same_rising numbers_cmp numbers_total numbers_same (rows_of new) (rows_of old) (rows_rise new) (rows_rise old)
+    same_rising numbered_row_cmp numbered_total numbered_same (rows_of new) (rows_of old) (rows_rise new) (rows_rise old)
     (λ r c. over new old r (mentioned new r c) (λ m. (same m).0))
     (λ r c. over old new r (mentioned old r c) (λ m. (same m).1))
   where
@@ -256,5 +257,5 @@ pub rows_few : (ms : List Mention) → length (rows_of ms) ≤ length ms
 rows_few [] = omega arith
 rows_few (m ∷ ms) =
     let rest = rows_few ms in
-    let one = insert_most numbers_cmp numbers_total numbers_same m.row (rows_of ms) in
+    let one = insert_most numbered_row_cmp numbered_total numbered_same m.row (rows_of ms) in
     omega arith

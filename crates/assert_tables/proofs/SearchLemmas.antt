@@ -1,25 +1,24 @@
 -- Searches among mentions.
-use Rattle.std.proofs.Common.{◌≡◌, ◌≢◌, ◌↔◌, ℕ, ◌<◌, ◌≤◌, ◌⊎◌, inl, inr, Bool, true, false, List, [], ◌∷◌, Contains, Option, Some, None, refl, sym, ◌∙◌, ap, subst, arith}
+use Rattle.std.proofs.Common.{◌≡◌, ◌≢◌, ℕ, ◌<◌, ◌≤◌, ◌⊎◌, inl, inr, true, false, List, [], ◌∷◌, Contains, Option, Some, None, refl, sym, ◌∙◌, ap, subst, arith}
 use Rattle.std.specs.Prelude.{IsTrue, IsSomeAnd, slice_get}
-use Rattle.std.specs.Cmp.{IsTotalOrder}
-use Rattle.std.specs.BTreeMap.Range.{IsFromStart, IsInRange}
+use Rattle.std.specs.BTreeMap.Range.{IsFromStart}
 use Rattle.std.specs.BTreeSet.{BTreeSet, contains, IsKeyRangeOf}
 use Rattle.std.specs.declared.cmp.Ordering.{Ordering}
 use Rattle.std.specs.declared.cmp.Ordering.TheVariants.{Less, Equal, Greater}
 use Rattle.std.specs.declared.ops.Bound.{Bound}
 use Rattle.std.specs.declared.ops.Bound.TheVariants.{Included, Excluded, Unbounded}
-use Rattle.std.specs.Option.{option_copied}
 use Rattle.std.specs.Ordering.{is_gt, is_lt, nat_cmp, ordering_then}
 use Rattle.std.proofs.lemmas.Cmp.{nat_cmp_total, tied_itself}
 use Rattle.std.proofs.lemmas.Bool.{cases_lt}
 use Rattle.std.proofs.lemmas.Bool.Decides.{nat_tests}
 use Rattle.dl_base.specs.declared.row.Row.{Row}
 use Rattle.dl_base.specs.declared.row.Row.TheVariants as row
-use Rattle.assert_tables.specs.Rows.{IsAbove, IsBehind, IsNamedIn, IsNextIndividual, IsNextOf, numbers_cmp}
+use Rattle.assert_tables.specs.Rows.{IsBehind, IsNamedIn, IsNextIndividual, IsNextOf}
+use Rattle.dl_base.specs.Rows.{numbered_row_cmp}
 use Rattle.assert_tables.specs.Mentions.{AreMentions, IsFrom, IsLeastFrom, IsLow, mention_cmp, rows_of, start_at}
 use Rattle.assert_tables.specs.contracts.row_set.MentionOrd.TheImpl.{cmp-value as mention_order}
 use Rattle.assert_tables.specs.declared.row_set.Mention.{Mention}
-use Rattle.assert_tables.proofs.MentionLemmas.{beside, in_set, mention, mention_counts, mentioned}
+use Rattle.assert_tables.proofs.MentionLemmas.{beside, in_set, mention, mention_counts}
 use Rattle.assert_tables.proofs.RowOrder.{by_row}
 
 greater_not : (r : Ordering) → is_gt r ≡ false → r ≢ Greater
@@ -60,8 +59,8 @@ least_first s start (m ∷ rest) range = (
 -- ---- the next row of an individual
 
 -- of one individual mentions are in the order of rows
-by_rows : (a : ℕ) (r q : Row) → mention_cmp (mention a r) (mention a q) ≡ numbers_cmp r q
-by_rows a r q = ap (λ (o : Ordering). ordering_then o (numbers_cmp r q)) (tied_itself nat_cmp_total a)
+by_rows : (a : ℕ) (r q : Row) → mention_cmp (mention a r) (mention a q) ≡ numbered_row_cmp r q
+by_rows a r q = ap (λ (o : Ordering). ordering_then o (numbered_row_cmp r q)) (tied_itself nat_cmp_total a)
 
 then_not_greater : (r s : Ordering) → ordering_then r s ≢ Greater → r ≢ Greater
 then_not_greater Less s other e = absurd cc
@@ -81,7 +80,7 @@ at_most x y other = by (cases_lt y x)
     by (inl lt) = absurd (other (nat_above x y lt))
     by (inr le) = le
 
-least_row : (q : Row) → numbers_cmp (row.Concept 0 0) q ≢ Greater
+least_row : (q : Row) → numbered_row_cmp (row.Concept 0 0) q ≢ Greater
 least_row (row.Concept d b) = by (nat_cmp 0 d) refl
   where
     none_below : (n : ℕ) → nat_cmp 0 n ≢ Greater
@@ -103,8 +102,8 @@ from_behind a (Some r) q from = sym (by_rows a r q) ∙ from
 
 -- a search for an individual's rows begins at no lower individual
 start_above : (a : ℕ) (after : Option Row) (m : Mention) → IsFrom (start_at a after) m → a ≤ m.individual
-start_above a None m from = at_most a m.individual (then_not_greater (nat_cmp a m.individual) (numbers_cmp (row.Concept 0 0) m.row) from)
-start_above a (Some r) m from = at_most a m.individual (then_not_less (nat_cmp a m.individual) (numbers_cmp r m.row) from)
+start_above a None m from = at_most a m.individual (then_not_greater (nat_cmp a m.individual) (numbered_row_cmp (row.Concept 0 0) m.row) from)
+start_above a (Some r) m from = at_most a m.individual (then_not_less (nat_cmp a m.individual) (numbered_row_cmp r m.row) from)
 
 pub none_next : (ms : List Mention) (a : ℕ) (after : Option Row) → AreMentions ms → IsLeastFrom ms (start_at a after) None → IsNextOf (rows_of ms) a after None
 none_next ms a after are least = λ q c named behind. least (mention a q) ((beside ms are a q named).0 c) (behind_from a after q behind)
@@ -118,14 +117,14 @@ some_next ms a after m are least here =
       from_behind a after m.row (subst (IsFrom (start_at a after)) whole least.1),
       λ q c named behind e.
           let not_greater : mention_cmp m (mention a q) ≢ Greater = least.2 (mention a q) ((beside ms are a q named).0 c) (behind_from a after q behind) in
-          let same : mention_cmp m (mention a q) ≡ numbers_cmp m.row q = ap (λ (n : Mention). mention_cmp n (mention a q)) whole ∙ by_rows a m.row q in
+          let same : mention_cmp m (mention a q) ≡ numbered_row_cmp m.row q = ap (λ (n : Mention). mention_cmp n (mention a q)) whole ∙ by_rows a m.row q in
           not_greater (same ∙ e),
     )
 
 pub other_next : (ms : List Mention) (a : ℕ) (after : Option Row) (m : Mention) → AreMentions ms → IsLeastFrom ms (start_at a after) (Some m) → m.individual ≢ a
     → IsNextOf (rows_of ms) a after None
 other_next ms a after m are least other = λ q c named behind.
-    let below : m.individual ≤ a = at_most m.individual a (then_not_greater (nat_cmp m.individual a) (numbers_cmp m.row q)
+    let below : m.individual ≤ a = at_most m.individual a (then_not_greater (nat_cmp m.individual a) (numbered_row_cmp m.row q)
     (least.2 (mention a q) ((beside ms are a q named).0 c) (behind_from a after q behind))) in
     let above : a ≤ m.individual = start_above a after m least.1 in
     other (omega arith)
@@ -136,9 +135,9 @@ other_next ms a after m are least other = λ q c named behind.
 from_there : (a : ℕ) (m : Mention) → a ≤ m.individual → IsFrom (start_at a None) m
 from_there a m le = by (nat_cmp a m.individual) refl
   where
-    by : (r : Ordering) → nat_cmp a m.individual ≡ r → ordering_then (nat_cmp a m.individual) (numbers_cmp (row.Concept 0 0) m.row) ≢ Greater
-    by Less e f = absurd (let g : Less ≡ Greater = ap (λ (o : Ordering). ordering_then o (numbers_cmp (row.Concept 0 0) m.row)) (sym e) ∙ f in cc)
-    by Equal e f = least_row m.row (ap (λ (o : Ordering). ordering_then o (numbers_cmp (row.Concept 0 0) m.row)) (sym e) ∙ f)
+    by : (r : Ordering) → nat_cmp a m.individual ≡ r → ordering_then (nat_cmp a m.individual) (numbered_row_cmp (row.Concept 0 0) m.row) ≢ Greater
+    by Less e f = absurd (let g : Less ≡ Greater = ap (λ (o : Ordering). ordering_then o (numbered_row_cmp (row.Concept 0 0) m.row)) (sym e) ∙ f in cc)
+    by Equal e f = least_row m.row (ap (λ (o : Ordering). ordering_then o (numbered_row_cmp (row.Concept 0 0) m.row)) (sym e) ∙ f)
     by Greater e f = absurd (let g : m.individual < a = grind (arith, nat_tests) in omega arith)
 
 pub none_individual : (ms : List Mention) (after : Option ℕ) (least : ℕ) → AreMentions ms → IsLow after least → IsLeastFrom ms (start_at least None) None
@@ -152,7 +151,7 @@ some_individual ms after least m are low found = (
   low.wanted m.individual (start_above least None m found.1),
   (m.row, mention_counts ms m found.0, are.named m found.0),
   λ r a c named above lt.
-      let le : m.individual ≤ a = at_most m.individual a (then_not_greater (nat_cmp m.individual a) (numbers_cmp m.row r)
+      let le : m.individual ≤ a = at_most m.individual a (then_not_greater (nat_cmp m.individual a) (numbered_row_cmp m.row r)
       (found.2 (mention a r) ((beside ms are a r named).0 c) (from_there least (mention a r) (low.reached a above)))) in
       omega arith,
 )
@@ -164,7 +163,7 @@ none_above s None m are greatest le = absurd le
 none_above s (Some after) m are greatest le = λ r a c named above.
     let there : IsTrue (contains mention_order.it s (mention a r)) = (in_set s (mention a r)).1 ((beside s.keys are a r named).0 c) in
     let not_less : is_lt (mention_order.it m (mention a r)) ≡ false = greatest (mention a r) there in
-    let less : mention_cmp m (mention a r) ≡ Less = let f : nat_cmp m.individual a ≡ Less = below m.individual a (omega arith) in ap (λ (o : Ordering). ordering_then o (numbers_cmp m.row r)) f in
+    let less : mention_cmp m (mention a r) ≡ Less = let f : nat_cmp m.individual a ≡ Less = below m.individual a (omega arith) in ap (λ (o : Ordering). ordering_then o (numbered_row_cmp m.row r)) f in
     absurd (let f : true ≡ false = ap is_lt (sym (by_row m (mention a r) ∙ less)) ∙ not_less in cc)
   where
     below : (x y : ℕ) → x < y → nat_cmp x y ≡ Less

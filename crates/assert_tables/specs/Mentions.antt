@@ -8,13 +8,14 @@ use Rattle.std.specs.declared.ops.Bound.{Bound}
 use Rattle.std.specs.declared.ops.Bound.TheVariants.{Included, Excluded, Unbounded}
 use Rattle.dl_base.specs.declared.row.Row.TheVariants as row
 use Rattle.dl_base.specs.declared.row.Row.{Row}
-use Rattle.assert_tables.specs.Rows.{IsAbove, IsNamedIn, numbers_cmp}
+use Rattle.assert_tables.specs.Rows.{IsAbove, IsNamedIn}
+use Rattle.dl_base.specs.Rows.{numbered_row_cmp}
 use Rattle.assert_tables.specs.declared.row_set.Mention.{Mention}
 
 -- the rising list of the rows that are mentioned
 abbrev pub rows_of : List Mention → List Row
 rows_of [] = []
-rows_of (m ∷ ms) = insert_key numbers_cmp (rows_of ms) m.row
+rows_of (m ∷ ms) = insert_key numbered_row_cmp (rows_of ms) m.row
 
 -- a row stands beside individuals that it names, and beside each of them
 pub record AreMentions (ms : List Mention) : Type 0 where
@@ -23,7 +24,7 @@ pub record AreMentions (ms : List Mention) : Type 0 where
 
 -- by their individuals, and of one individual by their rows
 abbrev pub mention_cmp : Mention → Mention → Ordering
-mention_cmp m n = ordering_then (nat_cmp m.individual n.individual) (numbers_cmp m.row n.row)
+mention_cmp m n = ordering_then (nat_cmp m.individual n.individual) (numbered_row_cmp m.row n.row)
 
 -- where the rows that name the individual begin behind that one, or of all
 abbrev pub start_at : ℕ → Option Row → Bound Mention

@@ -1,23 +1,16 @@
 -- Rows by number, in order, and the individuals that they name.
 use Rattle.std.specs.Prelude.{◌≡◌, ◌≢◌, ◌↔◌, ◌<◌, ◌≤◌, ◌+◌, ℕ, ◌⊎◌, List, [], ◌∷◌, length, Contains, Option, Some, None}
-use Rattle.std.specs.declared.cmp.Ordering.{Ordering}
 use Rattle.std.specs.declared.cmp.Ordering.TheVariants.{Less, Greater}
-use Rattle.std.specs.Ordering.{nat_cmp, ordering_then}
+use Rattle.std.specs.Ordering.{nat_cmp}
 use Rattle.std.specs.BTreeSet.{insert_key}
 use Rattle.std.specs.List.Sorted.{IsStrictlySortedBy}
+use Rattle.dl_base.specs.Rows.{numbered_row_cmp}
 use Rattle.dl_base.specs.declared.row.Row.{Row}
 use Rattle.dl_base.specs.declared.row.Row.TheVariants as row
 
--- concept rows before role rows, then by their numbers from left to right
-abbrev pub numbers_cmp : Row → Row → Ordering
-numbers_cmp (row.Concept c a) (row.Concept d b) = ordering_then (nat_cmp c d) (nat_cmp a b)
-numbers_cmp (row.Concept c a) (row.Role q x y) = Less
-numbers_cmp (row.Role p a b) (row.Concept d x) = Greater
-numbers_cmp (row.Role p a b) (row.Role q x y) = ordering_then (nat_cmp p q) (ordering_then (nat_cmp a x) (nat_cmp b y))
-
 -- a strictly rising list of rows
 abbrev pub AreRisingRows : List Row → Type 0
-AreRisingRows = IsStrictlySortedBy numbers_cmp
+AreRisingRows = IsStrictlySortedBy numbered_row_cmp
 
 -- the individuals that a row names, from left to right
 abbrev pub first_of : Row → ℕ
@@ -70,13 +63,13 @@ pub record Loses (r : Row) (old new : List Row) : Type 0 where
 -- the row comes behind that one, or there is none that it has to come behind
 abbrev pub IsBehind : Option Row → Row → Type 0
 IsBehind None r = Unit {0}
-IsBehind (Some after) r = numbers_cmp after r ≡ Less
+IsBehind (Some after) r = numbered_row_cmp after r ≡ Less
 
 -- the least row behind that one that names the individual, or none exactly where there is none
 abbrev pub IsNextOf : List Row → ℕ → Option Row → Option Row → Type 0
 IsNextOf rows a after None = (q : Row) → Contains rows q → IsNamedIn a q → IsBehind after q → ⊥
 IsNextOf rows a after (Some r) = Contains rows r × IsNamedIn a r × IsBehind after r
-    × ((q : Row) → Contains rows q → IsNamedIn a q → IsBehind after q → numbers_cmp r q ≢ Greater)
+    × ((q : Row) → Contains rows q → IsNamedIn a q → IsBehind after q → numbered_row_cmp r q ≢ Greater)
 
 -- the number is above that one, or there is none that it has to be above
 abbrev pub IsAbove : Option ℕ → ℕ → Type 0

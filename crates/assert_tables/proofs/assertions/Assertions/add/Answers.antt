@@ -1,5 +1,4 @@
-use Rattle.std.proofs.Common.{◌≡◌, ◌<◌, ◌^◌, Contains, arith, length, subst}
-use Rattle.assert_tables.specs.Rows.{AreCounts}
+use Rattle.std.proofs.Common.{◌≡◌, ◌<◌, ◌^◌, Contains, arith, length}
 use Rattle.assert_tables.proofs.CountLemmas.{BringsMore, brings_more, gains_none}
 use Rattle.assert_tables.proofs.assertions.Assertions.add.Goals as goal
 

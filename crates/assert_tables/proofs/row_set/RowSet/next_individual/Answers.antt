@@ -2,7 +2,7 @@ use Rattle.std.proofs.Common.{Some, None, subst}
 use Rattle.std.specs.declared.ops.Bound.{Bound}
 use Rattle.assert_tables.specs.Mentions.{IsLeastFrom}
 use Rattle.assert_tables.specs.declared.row_set.Mention.{Mention}
-use Rattle.assert_tables.proofs.SearchLemmas.{none_above, none_at_all, none_individual, some_individual}
+use Rattle.assert_tables.proofs.SearchLemmas.{none_above, none_individual, some_individual}
 use Rattle.assert_tables.proofs.row_set.RowSet.next_individual.Goals as goal
 
 pub returns-in_err-least : goal.returns-in_err-least

@@ -1,11 +1,11 @@
-use Rattle.std.proofs.Common.{arith, ◌≡◌, ◌↔◌, ◌≢◌, ◌∙◌, Contains, sym, subst, true, false, Bool}
-use Rattle.std.specs.BTreeSet.{contains, insert_key}
+use Rattle.std.proofs.Common.{arith, ◌≡◌, ◌↔◌, ◌∙◌, Contains, sym, true, false}
+use Rattle.std.specs.BTreeSet.{contains}
 use Rattle.assert_tables.specs.Mentions.{rows_of}
 use Rattle.assert_tables.specs.Rows.{first_of, last_of}
 use Rattle.assert_tables.specs.contracts.row_set.MentionOrd.TheImpl.{cmp-value as mention_order}
 use Rattle.assert_tables.specs.declared.row_set.Mention.{Mention}
 use Rattle.dl_base.proofs.RisingLemmas.{Adds}
-use Rattle.assert_tables.proofs.MentionLemmas.{BothAdded, added_are, added_gains, both_added, first_beside, found, has_row, in_set, kept_gains, mention, not_found, put_back, rows_few, same_are, same_rows, set_adds, set_removes}
+use Rattle.assert_tables.proofs.MentionLemmas.{BothAdded, added_are, added_gains, both_added, found, has_row, in_set, kept_gains, mention, not_found, put_back, rows_few, same_are, same_rows, set_adds, set_removes}
 use Rattle.assert_tables.proofs.row_set.RowSet.put.Goals as goal
 
 there : (c : goal.Then-not-branch) → Contains (rows_of c.self.inside.mentions.keys) c.args.row
