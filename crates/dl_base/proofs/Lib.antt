@@ -7,6 +7,7 @@ pub mod RisingLemmas
 pub mod PlaceLemmas
 pub mod ExtendLemmas
 pub mod RowLemmas
+pub mod InOrder
 pub mod ElemLemmas
 pub mod TableExamples
 pub mod SetLemmas

@@ -7,7 +7,11 @@ use Rattle.std.specs.declared.cmp.Ordering.{Ordering}
 use Rattle.std.specs.declared.cmp.Ordering.TheVariants.{Less, Equal, Greater}
 use Rattle.std.specs.Ordering.{ordering_then, nat_cmp, on, then_cmp}
 use Rattle.std.proofs.lemmas.Cmp.{nat_cmp_total, nat_list_cmp_total, lists_total, on_total, then_total}
-use Rattle.dl_base.specs.Rows.{name_cmp, row_cmp, AreRowsOf, IsIndividual}
+use Rattle.dl_base.specs.Rows.{name_cmp, row_cmp, numbered_row_cmp, AreRowsOf, IsIndividual}
+use Rattle.dl_base.specs.contracts.row.RowOrd.TheImpl.{cmp-value as key_order}
+use Rattle.dl_base.specs.contracts.row.RowOrd.TheImpl.Laws.{total-law}
+use Rattle.dl_base.specs.declared.row.Row.{Row}
+use Rattle.dl_base.specs.declared.row.Row.TheVariants as numbered
 use Rattle.dl_base.specs.declared.row.NamedRow.{NamedRow}
 use Rattle.dl_base.specs.declared.row.NamedRow.TheVariants as row
 use Rattle.dl_base.proofs.RisingLemmas.{nat_same, slice_same, same_rising, contains_cases}
@@ -92,3 +96,33 @@ none_rising cmp = tt
 
 pub individual_through : (few many : List NamedRow) → ((r : NamedRow) → Contains few r → Contains many r) → (a : List ℕ) → IsIndividual few a → IsIndividual many a
 individual_through few many into a (r, there, names) = (r, into r there, names)
+
+-- ---- rows by numbers
+
+-- sets keep rows in the order of rows by numbers
+pub keys_by_numbers : (x y : Row) → key_order.it x y ≡ numbered_row_cmp x y
+keys_by_numbers (numbered.Concept c a) (numbered.Concept d b) = refl
+keys_by_numbers (numbered.Concept c a) (numbered.Role q x y) = refl
+keys_by_numbers (numbered.Role p a b) (numbered.Concept d x) = refl
+keys_by_numbers (numbered.Role p a b) (numbered.Role q x y) = refl
+
+pub numbered_total : IsTotalOrder numbered_row_cmp
+numbered_total = total_as key_order.it numbered_row_cmp keys_by_numbers total-law
+
+-- rows by numbers that compare as equal are equal
+pub numbered_same : (x y : Row) → numbered_row_cmp x y ≡ Equal → x ≡ y
+numbered_same (numbered.Concept c a) (numbered.Concept d b) e =
+    let f = nat_same c d (then_first _ _ e) in
+    let g = nat_same a b (then_second (nat_cmp c d) _ e) in
+    λ j. numbered.Concept (f j) (g j)
+numbered_same (numbered.Concept c a) (numbered.Role q x y) e = absurd cc
+numbered_same (numbered.Role p a b) (numbered.Concept d x) e = absurd cc
+numbered_same (numbered.Role p a b) (numbered.Role q x y) e =
+    let rest = then_second (nat_cmp p q) _ e in
+    let f = nat_same p q (then_first _ _ e) in
+    let g = nat_same a x (then_first _ _ rest) in
+    let h = nat_same b y (then_second (nat_cmp a x) _ rest) in
+    λ j. numbered.Role (f j) (g j) (h j)
+
+pub keys_same : (x y : Row) → key_order.it x y ≡ Equal → x ≡ y
+keys_same x y e = numbered_same x y (sym (keys_by_numbers x y) ∙ e)

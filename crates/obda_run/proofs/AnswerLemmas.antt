@@ -24,7 +24,8 @@ use Rattle.query_shape.specs.declared.numbering.ShapeError.TheVariants as errors
 use Rattle.answer_core.specs.AnswerLaws.{HasNoSuccessorHead}
 use Rattle.obda_run.specs.Drafting.{IsConceptHead, IsWhole, HasReply}
 use Rattle.obda_run.specs.declared.document.Document.{Document}
-use Rattle.obda_run.proofs.FactLemmas.{in_order, rows_in_order}
+use Rattle.dl_base.proofs.InOrder.{in_order}
+use Rattle.obda_run.proofs.FactLemmas.{rows_in_order}
 use Rattle.dl_base.proofs.PlaceLemmas.{member_at}
 
 -- ---- names that the ontology has

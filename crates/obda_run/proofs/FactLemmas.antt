@@ -25,7 +25,8 @@ use Rattle.dl_base.specs.declared.row.NamedRow.TheVariants as named
 use Rattle.dl_base.specs.declared.row.Row.{Row}
 use Rattle.dl_base.specs.declared.row.Row.TheVariants as row
 use Rattle.dl_base.proofs.RisingLemmas.{nat_same, placed, placed_rises, placed_adds, Adds, contains_cases, contains_first, contains_later, all_contains}
-use Rattle.dl_base.proofs.RowLemmas.{name_total, name_same, row_total, row_same, contains_cut, individual_through, none_rising, then_first, then_second}
+use Rattle.dl_base.proofs.RowLemmas.{name_total, name_same, row_total, row_same, contains_cut, individual_through, keys_same, none_rising}
+use Rattle.dl_base.proofs.InOrder.{from_order, in_order, in_order_rises, insert_adds, into_order, rising_distinct}
 use Rattle.dl_base.proofs.ExtendLemmas.{name_there, interned_is, name_stays}
 use Rattle.dl_base.proofs.PlaceLemmas.{member_at, place_stays, one_place, distinct_head, distinct_tail, no_more}
 use Rattle.obda_run.specs.Completed.{IsRowWithin}
@@ -33,81 +34,15 @@ use Rattle.obda_run.specs.Document.{TooManyFacts}
 use Rattle.obda_run.specs.Facts.{KeepsFacts, NumbersRow, names_in}
 use Rattle.obda_run.specs.declared.facts.Facts.{Facts}
 
--- ---- strictly rising lists
-
-module _ {X : Type 0} (cmp : X → X → Ordering) (total : IsTotalOrder cmp) (same : (x y : X) → cmp x y ≡ Equal → x ≡ y) where
-  above_other : (x y : X) → cmp x y ≡ Less → x ≢ y
-  above_other x y less e =
-      let self : cmp x x ≡ Equal = tied_itself total x in
-      let again : cmp x x ≡ Less = subst (λ (z : X). cmp x z ≡ Less) (sym e) less in
-      absurd (let f : Less ≡ Equal = sym again ∙ self in cc)
-
-  -- its members are distinct
-  pub rising_distinct : (xs : List X) → IsStrictlySortedBy cmp xs → AllPairs (λ x y. x ≢ y) xs
-  unfolding IsStrictlySortedBy
-  rising_distinct [] rises = λ i j d lt below. absurd (omega arith)
-  rising_distinct (x ∷ xs) rises =
-      AllPairs-cons (λ x y. x ≢ y) x xs
-      (λ k d below. above_other x (get_or xs k d) (all_contains (λ z. cmp x z ≡ Less) xs (get_or xs k d) rises.0 (member_at xs k (get_or xs k d) (slice_get-get_or xs k d below))))
-      (rising_distinct xs rises.1)
-
-  -- the members of a list in order
-  pub in_order : List X → List X
-  in_order [] = []
-  in_order (x ∷ xs) = placed cmp total same x (in_order xs)
-
-  pub in_order_rises : (xs : List X) → IsStrictlySortedBy cmp (in_order xs)
-  unfolding in_order
-  in_order_rises [] = none_rising cmp
-  in_order_rises (x ∷ xs) = placed_rises cmp total same x (in_order xs) (in_order_rises xs)
-
-  pub from_order : (xs : List X) (z : X) → Contains (in_order xs) z → Contains xs z
-  unfolding in_order
-  from_order [] z c = c
-  from_order (x ∷ xs) z c = elim ((placed_adds cmp total same x (in_order xs)).each z c) [
-    | inl e ↦ subst (Contains (x ∷ xs)) (sym e) (contains_first x xs)
-    | inr d ↦ contains_later x xs z (from_order xs z d)
-  ]
-
-  pub into_order : (xs : List X) (z : X) → Contains xs z → Contains (in_order xs) z
-  unfolding in_order
-  into_order [] z c = c
-  into_order (x ∷ xs) z c = elim (contains_cases x xs z c) [
-    | inl e ↦ subst (Contains (in_order (x ∷ xs))) (sym e) (placed_adds cmp total same x (in_order xs)).there
-    | inr d ↦ (placed_adds cmp total same x (in_order xs)).stays z (into_order xs z d)
-  ]
-
-  -- a set inserts a key at its place
-  insert_is : (x : X) (xs : List X) → insert_key cmp xs x ≡ placed cmp total same x xs
-  insert_is x [] = refl
-  insert_is x (y ∷ ys) = ap (λ (zs : List X). match_ordering (cmp x y) (x ∷ y ∷ ys) (y ∷ ys) (y ∷ zs)) (insert_is x ys)
-
-  pub insert_adds : (x : X) (xs ys : List X) → ys ≡ insert_key cmp xs x → Adds x xs ys
-  insert_adds x xs ys is = subst (Adds x xs) (sym (is ∙ insert_is x xs)) (placed_adds cmp total same x xs)
-
 -- ---- keys in the order of rows by number
-
-key_same : (x y : Row) → key_order.it x y ≡ Equal → x ≡ y
-key_same (row.Concept c a) (row.Concept d b) e =
-    let f = nat_same c d (then_first _ _ e) in
-    let g = nat_same a b (then_second (nat_cmp c d) _ e) in
-    λ j. row.Concept (f j) (g j)
-key_same (row.Concept c a) (row.Role q x y) e = absurd cc
-key_same (row.Role p a b) (row.Concept d x) e = absurd cc
-key_same (row.Role p a b) (row.Role q x y) e =
-    let rest = then_second (nat_cmp p q) _ e in
-    let f = nat_same p q (then_first _ _ e) in
-    let g = nat_same a x (then_first _ _ rest) in
-    let h = nat_same b y (then_second (nat_cmp a x) _ rest) in
-    λ j. row.Role (f j) (g j) (h j)
 
 -- they are distinct
 pub keys_distinct : (keys : List Row) → IsStrictlySortedBy key_order.it keys → AllPairs (λ x y. x ≢ y) keys
-keys_distinct = rising_distinct key_order.it total-law key_same
+keys_distinct = rising_distinct key_order.it total-law keys_same
 
 -- and one more goes to its place
 pub key_adds : (n : Row) (old before new : List Row) → before ≡ old → new ≡ insert_key key_order.it before n → Adds n old new
-key_adds n old before new same is = insert_adds key_order.it total-law key_same n old new (is ∙ ap (λ (keys : List Row). insert_key key_order.it keys n) same)
+key_adds n old before new same is = subst (Adds n old) (sym (is ∙ ap (λ (keys : List Row). insert_key key_order.it keys n) same)) (insert_adds key_order.it total-law keys_same n old)
 
 -- ---- partners in another list
 

@@ -1,0 +1,4 @@
+pub mod RowOrder
+pub mod MentionLemmas
+pub mod CountLemmas
+pub mod SearchLemmas
