@@ -4,11 +4,10 @@ use Rattle.std.specs.Prelude.{◌==◌, ◌||◌, ◌↔◌, IsTrue, IfOk}
 use Rattle.std.proofs.lemmas.Bool.{cases_lt, eqb-true, ne_eqb}
 use Rattle.std.proofs.lemmas.List.{append-nil, append_cancel_left, length-take, drop_all}
 use Rattle.grammar.specs.Bytes.{is_blank, is_kind}
-use Rattle.grammar.specs.Grammar.{means}
 use Rattle.grammar.specs.Reading.{next_is, run_len, run_at, blanks_at}
 use Rattle.grammar.proofs.Exact.{SameHead-refl, Nothing}
 use Rattle.grammar.proofs.Parts.{Every, Every-middle, run_at-run, run_only}
-use Rattle.grammar.proofs.Rules.{Reads, FirstIs, first_then, reads_stop, reads_any, reads_blanks, reads_means, first_nothing}
+use Rattle.grammar.proofs.Rules.{Reads, first_then, reads_stop, reads_any, reads_blanks, reads_means, first_nothing}
 use Rattle.dl_base.specs.Ontology.{Terminology}
 use Rattle.dl_base.specs.Axiom.{Statement, Extends}
 use Rattle.dl_base.specs.declared.ontology.ExtendError.TheVariants.{TooMany}

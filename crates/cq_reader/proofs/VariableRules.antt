@@ -8,7 +8,6 @@ use Rattle.dl_base.specs.Query.{Question, HasBareVariables, terms, terms_of}
 use Rattle.dl_base.specs.declared.query.Term.{Term}
 use Rattle.dl_base.specs.declared.query.Term.TheVariants.{Var, Named}
 use Rattle.dl_base.specs.declared.query.Atom.{Atom}
-use Rattle.dl_base.specs.declared.query.Atom.TheVariants as atoms
 use Rattle.dl_base.proofs.RisingLemmas.{contains_cases}
 use Rattle.cq_reader.specs.QueryText.{term, atom, listed, query}
 

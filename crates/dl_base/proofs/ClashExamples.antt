@@ -9,7 +9,7 @@ use Rattle.dl_base.specs.Derivation.{Derives, Violates, inverse, leaf, node, non
 use Rattle.dl_base.specs.Rows.{IsIndividual, Names, Held, name_cmp, row_of}
 use Rattle.dl_base.specs.Unfolding.{Element, Named, Next, Exists, Start, DerivedAt}
 use Rattle.dl_base.specs.Clashes.{IsClash, individual_of, path_of, place_cmp}
-use Rattle.dl_base.specs.Laws.{direct, inverted, implies, clashing, a_and_b, first_of_all, ClashesInOrder}
+use Rattle.dl_base.specs.Laws.{direct_at, inverted_at, implies, clashing, a_and_b, first_of_all, ClashesInOrder}
 use Rattle.dl_base.specs.declared.concept.Role.{Role}
 use Rattle.dl_base.specs.declared.concept.Basic.{Basic}
 use Rattle.dl_base.specs.declared.concept.Basic.TheVariants as basic
@@ -44,13 +44,13 @@ begins (Next e r) exists = begins e exists.0
 -- ---- what is derived at a, and behind each role
 
 at_a : List Basic
-at_a = basic.Concept 0 ∷ basic.Exists (direct 2) ∷ basic.Exists (direct 1) ∷ []
+at_a = basic.Concept 0 ∷ basic.Exists (direct_at 2) ∷ basic.Exists (direct_at 1) ∷ []
 
 behind_p : List Basic
-behind_p = basic.Exists (inverted 2) ∷ basic.Exists (direct 0) ∷ basic.Exists (direct 2) ∷ []
+behind_p = basic.Exists (inverted_at 2) ∷ basic.Exists (direct_at 0) ∷ basic.Exists (direct_at 2) ∷ []
 
 behind_q : List Basic
-behind_q = basic.Exists (inverted 1) ∷ basic.Exists (direct 3) ∷ []
+behind_q = basic.Exists (inverted_at 1) ∷ basic.Exists (direct_at 3) ∷ []
 
 first_concept : (c : ℕ) → slice_get (codes "A" ∷ codes "B" ∷ []) c ≡ Some (codes "A") → c ≡ 0
 first_concept zero e = refl
@@ -70,7 +70,7 @@ held_at_a (basic.Concept c) h = elim (two_rows (row.Concept h.name (codes "a")) 
   | inl e ↦ (
       let name : h.name ≡ codes "A" = first_name h.name (codes "a") (codes "A") (codes "a") e in
       let place : c ≡ 0 = first_concept c (h.named ∙ ap Some name) in
-      ap (λ n. among (basic.Concept 0 ∷ basic.Exists (direct 2) ∷ basic.Exists (direct 1) ∷ []) (basic.Concept n)) place)
+      ap (λ n. among (basic.Concept 0 ∷ basic.Exists (direct_at 2) ∷ basic.Exists (direct_at 1) ∷ []) (basic.Concept n)) place)
   | inr e ↦ absurd (differ (codes "a") (codes "b") refl refl (second_name h.name (codes "a") (codes "B") (codes "b") e))
 ]
   where
@@ -88,35 +88,35 @@ alone bs c there b e = ap (among bs) e ∙ there
 exists_same : (r s : Role) → basic.Exists r ≡ basic.Exists s → r ≡ s
 exists_same r s e = cc
 
-p_or_q : (r : Role) → DerivedAt clashing a_and_b (Named (codes "a")) (basic.Exists r) → (r ≡ direct 2) ⊎ (r ≡ direct 1)
+p_or_q : (r : Role) → DerivedAt clashing a_and_b (Named (codes "a")) (basic.Exists r) → (r ≡ direct_at 2) ⊎ (r ≡ direct_at 1)
 unfolding at_a
 p_or_q r d = by (derived_among clashing.inclusions (Held clashing a_and_b (codes "a")) at_a refl held_at_a (basic.Exists r) d)
   where
-    later : Contains (basic.Exists (direct 2) ∷ basic.Exists (direct 1) ∷ []) (basic.Exists r) → (r ≡ direct 2) ⊎ (r ≡ direct 1)
-    later c = elim (contains_cases (basic.Exists (direct 2)) (basic.Exists (direct 1) ∷ []) (basic.Exists r) c) [
-      | inl e ↦ inl (exists_same r (direct 2) e)
-      | inr d ↦ inr (exists_same r (direct 1) (only_item (basic.Exists (direct 1)) (basic.Exists r) d))
+    later : Contains (basic.Exists (direct_at 2) ∷ basic.Exists (direct_at 1) ∷ []) (basic.Exists r) → (r ≡ direct_at 2) ⊎ (r ≡ direct_at 1)
+    later c = elim (contains_cases (basic.Exists (direct_at 2)) (basic.Exists (direct_at 1) ∷ []) (basic.Exists r) c) [
+      | inl e ↦ inl (exists_same r (direct_at 2) e)
+      | inr d ↦ inr (exists_same r (direct_at 1) (only_item (basic.Exists (direct_at 1)) (basic.Exists r) d))
     ]
 
-    by : Contains (basic.Concept 0 ∷ basic.Exists (direct 2) ∷ basic.Exists (direct 1) ∷ []) (basic.Exists r) → (r ≡ direct 2) ⊎ (r ≡ direct 1)
-    by c = elim (contains_cases (basic.Concept 0) (basic.Exists (direct 2) ∷ basic.Exists (direct 1) ∷ []) (basic.Exists r) c) [
+    by : Contains (basic.Concept 0 ∷ basic.Exists (direct_at 2) ∷ basic.Exists (direct_at 1) ∷ []) (basic.Exists r) → (r ≡ direct_at 2) ⊎ (r ≡ direct_at 1)
+    by c = elim (contains_cases (basic.Concept 0) (basic.Exists (direct_at 2) ∷ basic.Exists (direct_at 1) ∷ []) (basic.Exists r) c) [
       | inl e ↦ absurd cc
       | inr d ↦ later d
     ]
 
-behind_p_is : (r : Role) → Derives clashing.inclusions (λ b. b ≡ basic.Exists (inverted 2)) (basic.Exists r) → (r ≡ inverted 2) ⊎ ((r ≡ direct 0) ⊎ (r ≡ direct 2))
+behind_p_is : (r : Role) → Derives clashing.inclusions (λ b. b ≡ basic.Exists (inverted_at 2)) (basic.Exists r) → (r ≡ inverted_at 2) ⊎ ((r ≡ direct_at 0) ⊎ (r ≡ direct_at 2))
 unfolding behind_p
-behind_p_is r d = by (derived_among clashing.inclusions (λ b. b ≡ basic.Exists (inverted 2)) behind_p refl (alone behind_p (basic.Exists (inverted 2)) refl) (basic.Exists r) d)
+behind_p_is r d = by (derived_among clashing.inclusions (λ b. b ≡ basic.Exists (inverted_at 2)) behind_p refl (alone behind_p (basic.Exists (inverted_at 2)) refl) (basic.Exists r) d)
   where
-    later : Contains (basic.Exists (direct 0) ∷ basic.Exists (direct 2) ∷ []) (basic.Exists r) → (r ≡ direct 0) ⊎ (r ≡ direct 2)
-    later c = elim (contains_cases (basic.Exists (direct 0)) (basic.Exists (direct 2) ∷ []) (basic.Exists r) c) [
-      | inl e ↦ inl (exists_same r (direct 0) e)
-      | inr d ↦ inr (exists_same r (direct 2) (only_item (basic.Exists (direct 2)) (basic.Exists r) d))
+    later : Contains (basic.Exists (direct_at 0) ∷ basic.Exists (direct_at 2) ∷ []) (basic.Exists r) → (r ≡ direct_at 0) ⊎ (r ≡ direct_at 2)
+    later c = elim (contains_cases (basic.Exists (direct_at 0)) (basic.Exists (direct_at 2) ∷ []) (basic.Exists r) c) [
+      | inl e ↦ inl (exists_same r (direct_at 0) e)
+      | inr d ↦ inr (exists_same r (direct_at 2) (only_item (basic.Exists (direct_at 2)) (basic.Exists r) d))
     ]
 
-    by : Contains (basic.Exists (inverted 2) ∷ basic.Exists (direct 0) ∷ basic.Exists (direct 2) ∷ []) (basic.Exists r) → (r ≡ inverted 2) ⊎ ((r ≡ direct 0) ⊎ (r ≡ direct 2))
-    by c = elim (contains_cases (basic.Exists (inverted 2)) (basic.Exists (direct 0) ∷ basic.Exists (direct 2) ∷ []) (basic.Exists r) c) [
-      | inl e ↦ inl (exists_same r (inverted 2) e)
+    by : Contains (basic.Exists (inverted_at 2) ∷ basic.Exists (direct_at 0) ∷ basic.Exists (direct_at 2) ∷ []) (basic.Exists r) → (r ≡ inverted_at 2) ⊎ ((r ≡ direct_at 0) ⊎ (r ≡ direct_at 2))
+    by c = elim (contains_cases (basic.Exists (inverted_at 2)) (basic.Exists (direct_at 0) ∷ basic.Exists (direct_at 2) ∷ []) (basic.Exists r) c) [
+      | inl e ↦ inl (exists_same r (inverted_at 2) e)
       | inr d ↦ inr (later d)
     ]
 
@@ -126,19 +126,19 @@ fine_at_a : (k : ℕ) → Violates clashing.inclusions (Held clashing a_and_b (c
 unfolding at_a
 fine_at_a k v = none_violated clashing.inclusions (Held clashing a_and_b (codes "a")) at_a refl held_at_a k refl v
 
-fine_behind_p : (k : ℕ) → Violates clashing.inclusions (λ b. b ≡ basic.Exists (inverted 2)) k → ⊥
+fine_behind_p : (k : ℕ) → Violates clashing.inclusions (λ b. b ≡ basic.Exists (inverted_at 2)) k → ⊥
 unfolding behind_p
-fine_behind_p k v = none_violated clashing.inclusions (λ b. b ≡ basic.Exists (inverted 2)) behind_p refl (alone behind_p (basic.Exists (inverted 2)) refl) k refl v
+fine_behind_p k v = none_violated clashing.inclusions (λ b. b ≡ basic.Exists (inverted_at 2)) behind_p refl (alone behind_p (basic.Exists (inverted_at 2)) refl) k refl v
 
-fine_behind_q : (k : ℕ) → Violates clashing.inclusions (λ b. b ≡ basic.Exists (inverted 1)) k → ⊥
+fine_behind_q : (k : ℕ) → Violates clashing.inclusions (λ b. b ≡ basic.Exists (inverted_at 1)) k → ⊥
 unfolding behind_q
-fine_behind_q k v = none_violated clashing.inclusions (λ b. b ≡ basic.Exists (inverted 1)) behind_q refl (alone behind_q (basic.Exists (inverted 1)) refl) k refl v
+fine_behind_q k v = none_violated clashing.inclusions (λ b. b ≡ basic.Exists (inverted_at 1)) behind_q refl (alone behind_q (basic.Exists (inverted_at 1)) refl) k refl v
 
-fine_back : (k : ℕ) → Violates clashing.inclusions (λ b. b ≡ basic.Exists (direct 2)) k → ⊥
-fine_back k v = none_violated clashing.inclusions (λ b. b ≡ basic.Exists (direct 2)) (basic.Exists (direct 2) ∷ []) refl (alone (basic.Exists (direct 2) ∷ []) (basic.Exists (direct 2)) refl) k refl v
+fine_back : (k : ℕ) → Violates clashing.inclusions (λ b. b ≡ basic.Exists (direct_at 2)) k → ⊥
+fine_back k v = none_violated clashing.inclusions (λ b. b ≡ basic.Exists (direct_at 2)) (basic.Exists (direct_at 2) ∷ []) refl (alone (basic.Exists (direct_at 2) ∷ []) (basic.Exists (direct_at 2)) refl) k refl v
 
-by_seven : (k : ℕ) → Violates clashing.inclusions (λ b. b ≡ basic.Exists (inverted 0)) k → 6 < k
-by_seven k v = violated_behind clashing.inclusions (λ b. b ≡ basic.Exists (inverted 0)) (basic.Exists (inverted 0) ∷ []) refl (alone (basic.Exists (inverted 0) ∷ []) (basic.Exists (inverted 0)) refl) 6 k refl v
+by_seven : (k : ℕ) → Violates clashing.inclusions (λ b. b ≡ basic.Exists (inverted_at 0)) k → 6 < k
+by_seven k v = violated_behind clashing.inclusions (λ b. b ≡ basic.Exists (inverted_at 0)) (basic.Exists (inverted_at 0) ∷ []) refl (alone (basic.Exists (inverted_at 0) ∷ []) (basic.Exists (inverted_at 0)) refl) 6 k refl v
 
 -- ---- no clash is before it
 
@@ -170,30 +170,30 @@ longer e k is long = then_behind _ _ (ap (name_cmp (codes "a")) is) (then_less _
 two_more : (xs : List Role) (x y z : Role) → 2 < length (((xs ++ x ∷ []) ++ y ∷ []) ++ z ∷ [])
 two_more xs x y z = rw (length-append, length-append, length-append) (omega arith)
 
-by_q : (k : ℕ) (r : Role) → NotBefore (Next (Next (Named (codes "a")) (direct 1)) r) k
+by_q : (k : ℕ) (r : Role) → NotBefore (Next (Next (Named (codes "a")) (direct_at 1)) r) k
 by_q k r g = cc
 
-by_p_s : (k : ℕ) → 6 < k → NotBefore (Next (Next (Named (codes "a")) (direct 2)) (direct 0)) k
+by_p_s : (k : ℕ) → 6 < k → NotBefore (Next (Next (Named (codes "a")) (direct_at 2)) (direct_at 0)) k
 by_p_s k past = no_greater 7 k (omega arith)
 
-by_p : (r : Role) (k : ℕ) → Derives clashing.inclusions (λ b. b ≡ basic.Exists (inverted 2)) (basic.Exists r) → Violates clashing.inclusions (λ b. b ≡ basic.Exists (inverse r)) k
-    → NotBefore (Next (Next (Named (codes "a")) (direct 2)) r) k
+by_p : (r : Role) (k : ℕ) → Derives clashing.inclusions (λ b. b ≡ basic.Exists (inverted_at 2)) (basic.Exists r) → Violates clashing.inclusions (λ b. b ≡ basic.Exists (inverse r)) k
+    → NotBefore (Next (Next (Named (codes "a")) (direct_at 2)) r) k
 by_p r k d v = elim (behind_p_is r d) [
   | inl e ↦ absurd (fine_back k (subst (λ (s : Role). Violates clashing.inclusions (λ b. b ≡ basic.Exists (inverse s)) k) e v))
   | inr other ↦ elim other [
-    | inl e ↦ subst (λ (s : Role). NotBefore (Next (Next (Named (codes "a")) (direct 2)) s) k) (sym e)
+    | inl e ↦ subst (λ (s : Role). NotBefore (Next (Next (Named (codes "a")) (direct_at 2)) s) k) (sym e)
         (by_p_s k (by_seven k (subst (λ (s : Role). Violates clashing.inclusions (λ b. b ≡ basic.Exists (inverse s)) k) e v)))
     | inr e ↦ absurd (fine_behind_p k (subst (λ (s : Role). Violates clashing.inclusions (λ b. b ≡ basic.Exists (inverse s)) k) e v))
   ]
 ]
 
-two_roles : (r s : Role) (k : ℕ) → (r ≡ direct 2) ⊎ (r ≡ direct 1) → Derives clashing.inclusions (λ b. b ≡ basic.Exists (inverse r)) (basic.Exists s)
+two_roles : (r s : Role) (k : ℕ) → (r ≡ direct_at 2) ⊎ (r ≡ direct_at 1) → Derives clashing.inclusions (λ b. b ≡ basic.Exists (inverse r)) (basic.Exists s)
     → Violates clashing.inclusions (λ b. b ≡ basic.Exists (inverse s)) k → NotBefore (Next (Next (Named (codes "a")) r) s) k
 two_roles r s k (inl e) d v = subst (λ (x : Role). NotBefore (Next (Next (Named (codes "a")) x) s) k) (sym e)
     (by_p s k (subst (λ (x : Role). Derives clashing.inclusions (λ b. b ≡ basic.Exists (inverse x)) (basic.Exists s)) e d) v)
 two_roles r s k (inr e) d v = subst (λ (x : Role). NotBefore (Next (Next (Named (codes "a")) x) s) k) (sym e) (by_q k s)
 
-one_role : (r : Role) (k : ℕ) → (r ≡ direct 2) ⊎ (r ≡ direct 1) → Violates clashing.inclusions (λ b. b ≡ basic.Exists (inverse r)) k → ⊥
+one_role : (r : Role) (k : ℕ) → (r ≡ direct_at 2) ⊎ (r ≡ direct_at 1) → Violates clashing.inclusions (λ b. b ≡ basic.Exists (inverse r)) k → ⊥
 one_role r k (inl e) v = fine_behind_p k (subst (λ (x : Role). Violates clashing.inclusions (λ b. b ≡ basic.Exists (inverse x)) k) e v)
 one_role r k (inr e) v = fine_behind_q k (subst (λ (x : Role). Violates clashing.inclusions (λ b. b ≡ basic.Exists (inverse x)) k) e v)
 
@@ -219,15 +219,15 @@ not_before e k exists v = elim (a_or_b (individual_of e) (begins e exists)) [
 first_is_clash : IsClash clashing a_and_b first_of_all
 first_is_clash = record {
   exists = (((row.Concept (codes "A") (codes "a"), (0, omega arith, refl), refl), p_derived), s_derived);
-  violates = record { before = 6; number = refl; inclusion = implies (basic.Exists (inverted 0)) head.Nothing; at = refl; nothing = refl; body = each (leaf refl) none };
+  violates = record { before = 6; number = refl; inclusion = implies (basic.Exists (inverted_at 0)) head.Nothing; at = refl; nothing = refl; body = each (leaf refl) none };
 }
   where
-    p_derived : DerivedAt clashing a_and_b (Named (codes "a")) (basic.Exists (direct 2))
-    p_derived = node (implies (basic.Concept 0) (head.Basic (basic.Exists (direct 2)))) ((0, omega arith, refl)) refl
+    p_derived : DerivedAt clashing a_and_b (Named (codes "a")) (basic.Exists (direct_at 2))
+    p_derived = node (implies (basic.Concept 0) (head.Basic (basic.Exists (direct_at 2)))) ((0, omega arith, refl)) refl
         (each (leaf (record { name = codes "A"; named = refl; there = (0, omega arith, refl) })) none)
 
-    s_derived : DerivedAt clashing a_and_b (Next (Named (codes "a")) (direct 2)) (basic.Exists (direct 0))
-    s_derived = node (implies (basic.Exists (inverted 2)) (head.Basic (basic.Exists (direct 0)))) (2, omega arith, refl) refl (each (leaf refl) none)
+    s_derived : DerivedAt clashing a_and_b (Next (Named (codes "a")) (direct_at 2)) (basic.Exists (direct_at 0))
+    s_derived = node (implies (basic.Exists (inverted_at 2)) (head.Basic (basic.Exists (direct_at 0)))) (2, omega arith, refl) refl (each (leaf refl) none)
 
 pub clashes_in_order : ClashesInOrder
 clashes_in_order = (first_is_clash, λ d clash. not_before d.element d.inclusion clash.exists clash.violates)

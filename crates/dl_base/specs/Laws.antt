@@ -104,11 +104,11 @@ NoWitnessBeside = IsCompletedRow successors (row.Concept (codes "A") (codes "a")
     (codes "a" ∷ codes "b" ∷ []) (λ r. 1) (RoleRow 0 (elem.Named 0) witness_of_r) → ⊥
 
 -- the role name at a place, and its inverse
-abbrev pub direct : ℕ → Role
-direct p = record { name = p; inverse = false }
+abbrev pub direct_at : ℕ → Role
+direct_at p = record { name = p; inverse = false }
 
-abbrev pub inverted : ℕ → Role
-inverted p = record { name = p; inverse = true }
+abbrev pub inverted_at : ℕ → Role
+inverted_at p = record { name = p; inverse = true }
 
 abbrev pub implies : Basic → Head → Inclusion
 implies b h = record { body = b ∷ []; head = h }
@@ -118,12 +118,12 @@ abbrev pub predecessors : Terminology
 predecessors = record {
   concepts = codes "A" ∷ [];
   roles = codes "r" ∷ [];
-  inclusions = implies (basic.Concept 0) (head.Basic (basic.Exists (inverted 0))) ∷ [];
+  inclusions = implies (basic.Concept 0) (head.Basic (basic.Exists (inverted_at 0))) ∷ [];
 }
 
 -- the witness of the inverse of r in its first generation
 abbrev pub witness_of_inverse : Elem
-witness_of_inverse = elem.Shared (record { role = inverted 0; generation = 1 })
+witness_of_inverse = elem.Shared (record { role = inverted_at 0; generation = 1 })
 
 -- a is in A, so r leads from that witness to a in the completed tables, and not from a to it
 abbrev pub InverseWitnessLeads : Type 0
@@ -135,12 +135,12 @@ abbrev pub endless : Terminology
 endless = record {
   concepts = [];
   roles = codes "r" ∷ [];
-  inclusions = implies (basic.Exists (inverted 0)) (head.Basic (basic.Exists (direct 0))) ∷ [];
+  inclusions = implies (basic.Exists (inverted_at 0)) (head.Basic (basic.Exists (direct_at 0))) ∷ [];
 }
 
 -- so the role points to itself
 abbrev pub PointsToItself : Type 0
-PointsToItself = RolePoints endless (direct 0) (direct 0)
+PointsToItself = RolePoints endless (direct_at 0) (direct_at 0)
 
 -- Whatever is in A has a successor by p and one by q. Behind p there is one by s, and one by p again, and so on without an end; behind
 -- q there is one by r. But nothing may be behind r, nor behind s, which is said twice; and nothing may be in B.
@@ -148,14 +148,14 @@ abbrev pub clashing : Terminology
 clashing = record {
   concepts = codes "A" ∷ codes "B" ∷ [];
   roles = codes "s" ∷ codes "q" ∷ codes "p" ∷ codes "r" ∷ [];
-  inclusions = implies (basic.Concept 0) (head.Basic (basic.Exists (direct 2)))
-      ∷ implies (basic.Concept 0) (head.Basic (basic.Exists (direct 1)))
-      ∷ implies (basic.Exists (inverted 2)) (head.Basic (basic.Exists (direct 0)))
-      ∷ implies (basic.Exists (inverted 2)) (head.Basic (basic.Exists (direct 2)))
-      ∷ implies (basic.Exists (inverted 1)) (head.Basic (basic.Exists (direct 3)))
-      ∷ implies (basic.Exists (inverted 3)) head.Nothing
-      ∷ implies (basic.Exists (inverted 0)) head.Nothing
-      ∷ implies (basic.Exists (inverted 0)) head.Nothing
+  inclusions = implies (basic.Concept 0) (head.Basic (basic.Exists (direct_at 2)))
+      ∷ implies (basic.Concept 0) (head.Basic (basic.Exists (direct_at 1)))
+      ∷ implies (basic.Exists (inverted_at 2)) (head.Basic (basic.Exists (direct_at 0)))
+      ∷ implies (basic.Exists (inverted_at 2)) (head.Basic (basic.Exists (direct_at 2)))
+      ∷ implies (basic.Exists (inverted_at 1)) (head.Basic (basic.Exists (direct_at 3)))
+      ∷ implies (basic.Exists (inverted_at 3)) head.Nothing
+      ∷ implies (basic.Exists (inverted_at 0)) head.Nothing
+      ∷ implies (basic.Exists (inverted_at 0)) head.Nothing
       ∷ implies (basic.Concept 1) head.Nothing
       ∷ [];
 }
@@ -166,7 +166,7 @@ a_and_b = row.Concept (codes "A") (codes "a") ∷ row.Concept (codes "B") (codes
 
 -- behind a by p and s, by the first inclusion that says so
 abbrev pub first_of_all : Place
-first_of_all = record { element = Next (Next (Named (codes "a")) (direct 2)) (direct 0); inclusion = 7 }
+first_of_all = record { element = Next (Next (Named (codes "a")) (direct_at 2)) (direct_at 0); inclusion = 7 }
 
 -- That is the first clash. That at b has a shorter list and is behind it by name; those by p, p and s, by p, p, p and s, and so on are behind it by
 -- length; that by q and r is behind it by role order; and that of the same element by inclusion 8 is behind it by number.

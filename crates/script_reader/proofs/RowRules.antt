@@ -1,9 +1,8 @@
 -- The reading of a row is exact.
-use Rattle.std.proofs.Common.{◌∙◌, ℕ, Bool, true, false, List, ◌++◌, ap, refl}
+use Rattle.std.proofs.Common.{ℕ, true, false, List, refl}
 use Rattle.grammar.specs.Bytes.{is_name_byte}
 use Rattle.grammar.specs.Grammar.{Grammar, ◌>>=◌, ◌>>◌, ◌∣◌, means}
 use Rattle.grammar.specs.Blanks.{some_blanks}
-use Rattle.grammar.specs.Reading.{next_is}
 use Rattle.grammar.proofs.Exact.{Nothing, Same, same_trans, same_front, same_after, same_or}
 use Rattle.grammar.proofs.Rules.{Reads, FirstIs, first_then, first_or, first_some_blanks, reads_stop, reads_some_blanks, reads_means, reads_or, reads_last, reads_same, first_nothing}
 use Rattle.grammar.proofs.ByteKinds.{starting_not_blank, blank_not}
