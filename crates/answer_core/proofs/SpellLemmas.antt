@@ -6,7 +6,7 @@ use Rattle.std.proofs.lemmas.List.Elements.{All-contains, Contains-append_left, 
 use Rattle.dl_base.specs.Answers.{key_cmp}
 use Rattle.dl_base.proofs.RisingLemmas.{contains_first}
 use Rattle.answer_core.specs.Found.{AddsKey, Spells, AreSpelled}
-use Rattle.answer_core.proofs.ListLemmas.{some_same}
+use Rattle.dl_base.proofs.PlaceLemmas.{some_same}
 
 -- numbers spell one key
 pub spells_same : (names : List (List ℕ)) (ns : List ℕ) (key other : List (List ℕ)) → Spells names ns key → Spells names ns other → other ≡ key
@@ -26,13 +26,6 @@ pub record AreSpelledOf (names : List (List ℕ)) (all left : List (List ℕ)) (
   pub whole : done ++ left ≡ all
   pub members : (key : List (List ℕ)) → (Contains keys key → (numbers : List ℕ) × Contains done numbers × Spells names numbers key)
       × ((numbers : List ℕ) → Contains done numbers → Spells names numbers key → Contains keys key)
-
-pub spelled_none : (names : List (List ℕ)) (all : List (List ℕ)) → AreSpelledOf names all all []
-spelled_none names all = record {
-  done = [];
-  whole = refl;
-  members = λ key. (λ c. absurd (omega arith), λ numbers c. absurd (omega arith));
-}
 
 -- what holds of all holds of the next
 pub next_numbers : (P : List ℕ → Type 0) (names : List (List ℕ)) (all left : List (List ℕ)) (numbers : List ℕ) (keys : List (List (List ℕ)))
