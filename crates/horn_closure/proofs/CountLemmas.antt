@@ -5,7 +5,7 @@ use Rattle.std.proofs.lemmas.Bool.Decides.{nat_tests}
 use Rattle.std.proofs.lemmas.List.{take-append-drop}
 use Rattle.dl_base.specs.Sets.{place_of}
 use Rattle.dl_base.specs.declared.concept.Basic.{Basic}
-use Rattle.horn_closure.specs.Run.{count, times, waiting, copies}
+use Rattle.horn_closure.specs.Run.{count, members_at, waiting, copies}
 
 pub same_is : (i : ℕ) → (i == i) ≡ true
 same_is i = grind (arith, nat_tests)
@@ -42,12 +42,12 @@ count_past n i (x ∷ xs) all past =
 
 -- one place more is visited
 pub waiting_more : (vs ws : List ℕ) (p : ℕ) (bs : List Basic) → ((q : ℕ) → count q ws ≡ count q vs + (if p == q then 1 else 0)) → count p vs ≡ 0
-    → waiting ws bs + times p bs ≡ waiting vs bs
+    → waiting ws bs + members_at p bs ≡ waiting vs bs
 waiting_more vs ws p [] more new = refl
 waiting_more vs ws p (b ∷ bs) more new = by (p == place_of b) refl (more (place_of b)) (waiting_more vs ws p bs more new)
   where
-    by : (t : Bool) → (p == place_of b) ≡ t → count (place_of b) ws ≡ count (place_of b) vs + (if p == place_of b then 1 else 0) → waiting ws bs + times p bs ≡ waiting vs bs
-        → waiting ws (b ∷ bs) + times p (b ∷ bs) ≡ waiting vs (b ∷ bs)
+    by : (t : Bool) → (p == place_of b) ≡ t → count (place_of b) ws ≡ count (place_of b) vs + (if p == place_of b then 1 else 0) → waiting ws bs + members_at p bs ≡ waiting vs bs
+        → waiting ws (b ∷ bs) + members_at p (b ∷ bs) ≡ waiting vs (b ∷ bs)
     by true e now rest =
         let same : p ≡ place_of b = grind (arith, nat_tests) in
         let none : count (place_of b) vs ≡ 0 = rw same at new in
@@ -73,9 +73,9 @@ pub all_waiting : (bs : List Basic) → waiting [] bs ≡ length bs
 all_waiting [] = refl
 all_waiting (b ∷ bs) = let rest : waiting [] bs ≡ length bs = all_waiting bs in omega arith
 
-pub times-append : (p : ℕ) (xs ys : List Basic) → times p (xs ++ ys) ≡ times p xs + times p ys
-times-append p [] ys = omega arith
-times-append p (x ∷ xs) ys = let rest : times p (xs ++ ys) ≡ times p xs + times p ys = times-append p xs ys in omega arith
+pub members_at-append : (p : ℕ) (xs ys : List Basic) → members_at p (xs ++ ys) ≡ members_at p xs + members_at p ys
+members_at-append p [] ys = omega arith
+members_at-append p (x ∷ xs) ys = let rest : members_at p (xs ++ ys) ≡ members_at p xs + members_at p ys = members_at-append p xs ys in omega arith
 
 pub copies-push : (n i : ℕ) → copies n i ++ i ∷ [] ≡ copies (suc n) i
 copies-push zero i = refl

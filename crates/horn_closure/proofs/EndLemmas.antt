@@ -1,6 +1,7 @@
 -- Laws of the beginning and the end of a closure.
 use Rattle.std.proofs.Common.{◌≡◌, ◌≢◌, ℕ, zero, suc, ◌+◌, ◌<◌, ◌≤◌, ◌⊎◌, inl, inr, ◌==◌, Bool, true, false, List, [], ◌∷◌, length, map, get_or, drop, slice_index, slice_index_or, slice_get, slice_set, Option, Some, None, All, refl, sym, ◌∙◌, ap, subst, arith, get_or-set_same, get_or-set_other, if◌then◌else◌}
 use Rattle.std.specs.List.{AllByRecursion}
+use Rattle.std.proofs.lemmas.List.{get_or_default}
 use Rattle.std.proofs.lemmas.Bool.{cases_eq}
 use Rattle.std.proofs.lemmas.Grind.{same_number_lists}
 use Rattle.std.proofs.lemmas.List.Elements.{recursion_from_All}
@@ -12,11 +13,11 @@ use Rattle.dl_base.specs.Sets.{place_of, HasBasic}
 use Rattle.dl_base.specs.declared.concept.Basic.{Basic}
 use Rattle.dl_base.specs.declared.concept.Inclusion.{Inclusion}
 use Rattle.horn_closure.specs.declared.run.Found.{Found}
-use Rattle.horn_closure.specs.Closure.{IsClosure, IsLeastViolated, IsScratchOf}
-use Rattle.horn_closure.specs.Run.{count, times, waiting, uses_at, AreRules, IsQueueOf, IsSpent, IsFirstSpent, IsRun}
+use Rattle.horn_closure.specs.Closure.{IsClosure, IsLeastViolated, body_lengths}
+use Rattle.horn_closure.specs.Run.{count, members_at, waiting, uses_at, AreRules, IsQueueOf, IsSpent, IsFirstSpent, IsRun}
 use Rattle.horn_closure.proofs.CountLemmas.{same_is, other_is, waiting_more, all_waiting, all_visited, none_waiting}
 use Rattle.horn_closure.proofs.QueueLemmas.{once_each}
-use Rattle.horn_closure.proofs.RunLemmas.{queued_from_has, has_from_queued, any_default, next_left}
+use Rattle.horn_closure.proofs.RunLemmas.{queued_from_has, has_from_queued, next_left}
 
 -- the scratch of the inclusions has the number of members of each body
 map_at : (inclusions : List Inclusion) (i : ℕ) (d : Inclusion) → i < length inclusions → get_or (map (λ (x : Inclusion). length x.body) inclusions) i 0 ≡ length (get_or inclusions i d).body
@@ -28,11 +29,11 @@ map_length : (inclusions : List Inclusion) → length (map (λ (x : Inclusion). 
 map_length [] = refl
 map_length (x ∷ xs) = ap suc (map_length xs)
 
-pub scratch_at : (inclusions : List Inclusion) (left : List ℕ) (i : ℕ) (inclusion : Inclusion) → IsScratchOf inclusions left → slice_get inclusions i ≡ Some inclusion → slice_index left i ≡ length inclusion.body
+pub scratch_at : (inclusions : List Inclusion) (left : List ℕ) (i : ℕ) (inclusion : Inclusion) → left ≡ body_lengths inclusions → slice_get inclusions i ≡ Some inclusion → slice_index left i ≡ length inclusion.body
 scratch_at inclusions left i inclusion clean at =
     ap (λ (xs : List ℕ). get_or xs i 0) clean ∙ map_at inclusions i inclusion (slice_get_within inclusions i inclusion at) ∙ ap (λ (x : Inclusion). length x.body) (get_or_from_slice_get inclusions i inclusion inclusion at)
 
-pub scratch_length : (inclusions : List Inclusion) (left : List ℕ) → IsScratchOf inclusions left → length left ≡ length inclusions
+pub scratch_length : (inclusions : List Inclusion) (left : List ℕ) → left ≡ body_lengths inclusions → length left ≡ length inclusions
 scratch_length inclusions left clean = ap length clean ∙ map_length inclusions
 
 -- each inclusion is within the limits
@@ -41,7 +42,7 @@ within_at inclusions i inclusion within at = subst (IsWithin 512 256) (get_or_fr
 
 -- before any place is visited
 pub run_first : (inclusions : List Inclusion) (queue : List ℕ) (found : Found) (left : List ℕ) → All (IsWithin 512 256) inclusions
-    → IsQueueOf found.derived queue → found.violated ≡ None → IsScratchOf inclusions left → IsRun inclusions [] [] queue found left
+    → IsQueueOf found.derived queue → found.violated ≡ None → left ≡ body_lengths inclusions → IsRun inclusions [] [] queue found left
 run_first inclusions queue found left within is no_violated clean = record {
   marks = is;
   among = λ p. omega arith;
@@ -67,8 +68,8 @@ waiting_used inclusions uses i inclusion [] rules at inside once = let all : wai
 waiting_used inclusions uses i inclusion (p ∷ ps) rules at inside once =
     let rest : waiting ps inclusion.body + uses_at i uses ps ≡ length inclusion.body = waiting_used inclusions uses i inclusion ps rules at inside.1 (λ q. let most : count q (p ∷ ps) ≤ 1 = once q in omega arith) in
     let new : count p ps ≡ 0 = (let most : 1 + count p ps ≤ 1 = rw (same_is p) at (once p) in omega arith) in
-    let fewer : waiting (p ∷ ps) inclusion.body + times p inclusion.body ≡ waiting ps inclusion.body = waiting_more ps (p ∷ ps) p inclusion.body (λ q. omega arith) new in
-    let used : count i (slice_index_or uses p []) ≡ times p inclusion.body = (rules.each p inside.0).counts i inclusion at in
+    let fewer : waiting (p ∷ ps) inclusion.body + members_at p inclusion.body ≡ waiting ps inclusion.body = waiting_more ps (p ∷ ps) p inclusion.body (λ q. omega arith) new in
+    let used : count i (slice_index_or uses p []) ≡ members_at p inclusion.body = (rules.each p inside.0).counts i inclusion at in
     omega arith
 
 pub left_and_used : (inclusions : List Inclusion) (uses : List (List ℕ)) (queue : List ℕ) (found : Found) (left : List ℕ) (i : ℕ) (inclusion : Inclusion)
@@ -89,7 +90,7 @@ few_used (x ∷ xs) uses queue found left i rules s inside =
     omega arith
 
 pub handed_back_at : (inclusions : List Inclusion) (uses : List (List ℕ)) (queue : List ℕ) (found : Found) (old left : List ℕ) (i : ℕ)
-    → AreRules inclusions uses → IsRun inclusions [] queue queue found left → IsScratchOf inclusions old → i < length inclusions → slice_index left i + uses_at i uses queue ≡ slice_index old i
+    → AreRules inclusions uses → IsRun inclusions [] queue queue found left → old ≡ body_lengths inclusions → i < length inclusions → slice_index left i + uses_at i uses queue ≡ slice_index old i
 handed_back_at [] uses queue found old left i rules s clean inside = absurd (omega arith)
 handed_back_at (x ∷ xs) uses queue found old left i rules s clean inside =
     let at : slice_get (x ∷ xs) i ≡ Some (get_or (x ∷ xs) i x) = slice_get-get_or (x ∷ xs) i x inside in
@@ -97,7 +98,7 @@ handed_back_at (x ∷ xs) uses queue found old left i rules s clean inside =
 
 -- once each use is handed back the scratch is as it was
 pub handed_back : (inclusions : List Inclusion) (uses : List (List ℕ)) (queue : List ℕ) (found : Found) (old left new : List ℕ)
-    → AreRules inclusions uses → IsRun inclusions [] queue queue found left → IsScratchOf inclusions old → length new ≡ length left
+    → AreRules inclusions uses → IsRun inclusions [] queue queue found left → old ≡ body_lengths inclusions → length new ≡ length left
     → ((i : ℕ) → i < length left → slice_index new i ≡ slice_index left i + uses_at i uses queue) → new ≡ old
 handed_back inclusions uses queue found old left new rules s clean same given =
     let many : length left ≡ length inclusions = s.each in
@@ -148,7 +149,7 @@ place_within uses queue places k within places_is inside = let all : All (λ p. 
 pub uses_read : (uses : List (List ℕ)) (queue places us found : List ℕ) (k : ℕ) → All (λ p. p < length uses) queue → places ≡ queue → k < length places
     → us ≡ found → found ≡ get_or uses (get_or places k 0) found → us ≡ slice_index_or uses (get_or places k 0) []
 uses_read uses queue places us found k within places_is inside us_is found_is =
-    us_is ∙ found_is ∙ any_default uses (get_or places k 0) found [] (place_within uses queue places k within places_is inside)
+    us_is ∙ found_is ∙ get_or_default uses (get_or places k 0) found [] (place_within uses queue places k within places_is inside)
 
 -- what remains to be handed back at the places from the next on
 pub uses_next : (uses : List (List ℕ)) (places us : List ℕ) (k j : ℕ) → k < length places → us ≡ slice_index_or uses (get_or places k 0) []

@@ -1,3 +1,4 @@
+pub mod ClosureLemmas
 pub mod CountLemmas
 pub mod EndLemmas
 pub mod QueueLemmas

@@ -3,7 +3,7 @@ use Rattle.std.proofs.Common.{◌≡◌, ◌≢◌, ℕ, zero, suc, ◌+◌, ◌
 use Rattle.std.specs.List.{AllByRecursion}
 use Rattle.std.proofs.lemmas.Bool.{cases_eq}
 use Rattle.std.proofs.lemmas.Grind.{take_at_read}
-use Rattle.std.proofs.lemmas.List.{take-append-le}
+use Rattle.std.proofs.lemmas.List.{get_or_default, take-append-le}
 use Rattle.std.proofs.lemmas.List.Elements.{recursion_from_All, All-get_or}
 use Rattle.std.proofs.lemmas.Option.{get_or_from_slice_get, slice_get-get_or}
 use Rattle.dl_base.proofs.DerivationLemmas.{cut}
@@ -17,7 +17,7 @@ use Rattle.dl_base.specs.declared.concept.Inclusion.{Inclusion}
 use Rattle.horn_closure.specs.declared.run.Found.{Found}
 use Rattle.horn_closure.proofs.CountLemmas.{same_is, other_is, count-append, count_more, count_last, count-take, waiting_more, all_visited}
 use Rattle.horn_closure.proofs.QueueLemmas.{bit-lt, once_each, place-lt}
-use Rattle.horn_closure.specs.Run.{count, times, waiting, bit, AreUses, AreRules, IsQueueOf, IsSpent, IsFirstSpent, IsRun, Marks, Advances}
+use Rattle.horn_closure.specs.Run.{count, members_at, waiting, bit, AreUses, AreRules, IsQueueOf, IsSpent, IsFirstSpent, IsRun, Marks, MarksDerived}
 
 -- what is in the queue is in the set
 pub has_from_queued : (words queue : List ℕ) (b : Basic) → IsQueueOf words queue → IsPlaced 512 256 b → 0 < count (place_of b) queue → HasBasic words b
@@ -148,12 +148,12 @@ pub nothing_after : (xs : List ℕ) → xs ≡ xs ++ []
 nothing_after [] = refl
 nothing_after (x ∷ xs) = ap (λ (ys : List ℕ). x ∷ ys) (nothing_after xs)
 
-pub nothing_advances : (inclusions : List Inclusion) (words queue : List ℕ) → Advances inclusions words queue words queue
+pub nothing_advances : (inclusions : List Inclusion) (words queue : List ℕ) → MarksDerived inclusions words queue words queue
 nothing_advances inclusions words queue = record { sound = λ b has. leaf has; grows = λ b has. has; longer = ([], nothing_after queue) }
 
 -- one advance after another
 pub advances_both : (inclusions : List Inclusion) (m m' m'' q q' q'' : List ℕ)
-    → Advances inclusions m q m' q' → Advances inclusions m' q' m'' q'' → Advances inclusions m q m'' q''
+    → MarksDerived inclusions m q m' q' → MarksDerived inclusions m' q' m'' q'' → MarksDerived inclusions m q m'' q''
 advances_both inclusions m m' m'' q q' q'' a b = record {
   sound = λ c has. cut inclusions (HasBasic m) (HasBasic m') a.sound (b.sound c has);
   grows = λ c has. b.grows c (a.grows c has);
@@ -167,7 +167,7 @@ longer_counts queue queue' more is p = let split : count p queue' ≡ count p qu
 -- the mark of the head of an inclusion whose body is derived
 pub mark_advances : (inclusions : List Inclusion) (inclusion : Inclusion) (b : Basic) (old queue new queue' : List ℕ)
     → Contains inclusions inclusion → inclusion.head ≡ head.Basic b → DerivesAll inclusions (HasBasic old) inclusion.body
-    → Marks b old queue new queue' → Advances inclusions old queue new queue'
+    → Marks b old queue new queue' → MarksDerived inclusions old queue new queue'
 mark_advances inclusions inclusion b old queue new queue' there is body m = record {
   sound = λ c has. elim ((m.adds c).0 has) [
     | inl e ↦ subst (Derives inclusions (HasBasic old)) (sym e) (node inclusion there is body)
@@ -199,7 +199,7 @@ module _ (inclusions : List Inclusion) (i : ℕ) (d : Inclusion) (inside : i < l
 -- of inclusion i some members are left
 pub settled_some : (inclusions : List Inclusion) (i w : ℕ) (remaining visited queue : List ℕ) (found : Found) (left : List ℕ)
     → i < length inclusions → slice_index left i ≡ w + 1 → 0 < w → IsRun inclusions (i ∷ remaining) visited queue found left
-    → IsRun inclusions remaining visited queue found (slice_set left i w) × Advances inclusions found.derived queue found.derived queue
+    → IsRun inclusions remaining visited queue found (slice_set left i w) × MarksDerived inclusions found.derived queue found.derived queue
 settled_some inclusions i w remaining visited queue found left inside was some s = (
   run_less inclusions i w remaining visited queue queue found found left inside was s.marks (λ p. omega arith) (λ b h. h) (λ inclusion b at is zero_left. absurd (omega arith))
       (spent_kept inclusions left i w found.violated was (λ k spent. λ e. never spent.before spent.none_left e) s.spent) s,
@@ -217,7 +217,7 @@ settled_some inclusions i w remaining visited queue found left inside was some s
 pub settled_basic : (inclusions : List Inclusion) (i w : ℕ) (d : Inclusion) (b : Basic) (remaining visited queue queue' : List ℕ) (found found' : Found) (left : List ℕ)
     → i < length inclusions → All (IsWithin 512 256) inclusions → (get_or inclusions i d).head ≡ head.Basic b → slice_index left i ≡ w + 1 → w ≡ 0
     → found'.violated ≡ found.violated → Marks b found.derived queue found'.derived queue' → IsRun inclusions (i ∷ remaining) visited queue found left
-    → IsRun inclusions remaining visited queue' found' (slice_set left i w) × Advances inclusions found.derived queue found'.derived queue'
+    → IsRun inclusions remaining visited queue' found' (slice_set left i w) × MarksDerived inclusions found.derived queue found'.derived queue'
 settled_basic inclusions i w d b remaining visited queue queue' found found' left inside within is was zero_left same_violated m s =
     let fits : IsWithin 512 256 (get_or inclusions i d) = All-get_or (IsWithin 512 256) inclusions i d inside within in
     let body : DerivesAll inclusions (HasBasic found.derived) (get_or inclusions i d).body =
@@ -240,7 +240,7 @@ pub settled_nothing : (inclusions : List Inclusion) (i w : ℕ) (d : Inclusion) 
     → i < length inclusions → (get_or inclusions i d).head ≡ head.Nothing → slice_index left i ≡ w + 1 → w ≡ 0
     → found'.derived ≡ found.derived → found'.violated ≡ Some least → MatchOption found.violated (least ≡ i + 1) (λ first. least ≡ min first (i + 1))
     → IsRun inclusions (i ∷ remaining) visited queue found left
-    → IsRun inclusions remaining visited queue found' (slice_set left i w) × Advances inclusions found.derived queue found.derived queue
+    → IsRun inclusions remaining visited queue found' (slice_set left i w) × MarksDerived inclusions found.derived queue found.derived queue
 settled_nothing inclusions i w d least remaining visited queue found found' left inside is was zero_left same_derived violated least_is s = (
   run_less inclusions i w remaining visited queue queue found found' left inside was (rw same_derived s.marks) (λ p. omega arith) (λ b h. rw same_derived h)
       (λ inclusion c at is' zero_left'.
@@ -293,9 +293,9 @@ visited_next inclusions us queue k found left inside uses s = record {
   counts = λ i inclusion at.
       let old : slice_index left i ≡ waiting (take k queue) inclusion.body + 0 = s.counts i inclusion at in
       let split : take (k + 1) queue ≡ take k queue ++ get_or queue k 0 ∷ [] = (take_at_read queue k 0 inside).1 in
-      let fewer : waiting (take (k + 1) queue) inclusion.body + times (get_or queue k 0) inclusion.body ≡ waiting (take k queue) inclusion.body
+      let fewer : waiting (take (k + 1) queue) inclusion.body + members_at (get_or queue k 0) inclusion.body ≡ waiting (take k queue) inclusion.body
       = waiting_more (take k queue) (take (k + 1) queue) (get_or queue k 0) inclusion.body (λ q. rw split (count_more q (get_or queue k 0) (take k queue))) (new_place found.derived queue k s.marks inside) in
-      let times_is : count i us ≡ times (get_or queue k 0) inclusion.body = uses.counts i inclusion at in
+      let times_is : count i us ≡ members_at (get_or queue k 0) inclusion.body = uses.counts i inclusion at in
       omega arith;
   fired = s.fired;
   spent = s.spent;
@@ -305,19 +305,13 @@ visited_next inclusions us queue k found left inside uses s = record {
 pub same_front : (queue queue' more : List ℕ) (n : ℕ) → queue' ≡ queue ++ more → n ≤ length queue → take n queue' ≡ take n queue
 same_front queue queue' more n is below = ap (take n) is ∙ take-append-le n queue more below
 
--- inside a list the default is not read
-pub any_default : {X : Type 0} (xs : List X) (i : ℕ) (d e : X) → i < length xs → get_or xs i d ≡ get_or xs i e
-any_default [] i d e h = absurd (omega arith)
-any_default (x ∷ xs) zero d e h = refl
-any_default (x ∷ xs) (suc i) d e h = any_default xs i d e (omega arith)
-
 -- the uses of a place of the queue
 pub uses_of_place : (inclusions : List Inclusion) (uses : List (List ℕ)) (words queue places us found : List ℕ) (k : ℕ) → AreRules inclusions uses → IsQueueOf words queue
     → k < length queue → places ≡ queue → us ≡ found → found ≡ get_or uses (get_or places k 0) found → AreUses inclusions (get_or queue k 0) us
 uses_of_place inclusions uses words queue places us found k rules is inside places_is us_is found_is =
     let below : get_or queue k 0 < 1024 = is.inside k 0 inside in
     let many : length uses ≡ 1024 = rules.places in
-    let there : us ≡ get_or uses (get_or queue k 0) [] = us_is ∙ found_is ∙ ap (λ (xs : List ℕ). get_or uses (get_or xs k 0) found) places_is ∙ any_default uses (get_or queue k 0) found [] (omega arith) in
+    let there : us ≡ get_or uses (get_or queue k 0) [] = us_is ∙ found_is ∙ ap (λ (xs : List ℕ). get_or uses (get_or xs k 0) found) places_is ∙ get_or_default uses (get_or queue k 0) found [] (omega arith) in
     rw there (rules.each (get_or queue k 0) below)
 
 pub longer_length : (queue queue' more : List ℕ) → queue' ≡ queue ++ more → length queue ≤ length queue'

@@ -11,8 +11,8 @@ use Rattle.dl_base.specs.declared.concept.Basic.TheVariants as basic
 use Rattle.dl_base.specs.declared.concept.Head.{Head}
 use Rattle.dl_base.specs.declared.concept.Head.TheVariants as head
 use Rattle.dl_base.specs.declared.concept.Inclusion.{Inclusion}
-use Rattle.horn_closure.specs.Run.{times, copies, count, AreUses}
-use Rattle.horn_closure.proofs.CountLemmas.{same_is, other_is, count-append, times-append, copies-push, count-copies_same, count-copies_other}
+use Rattle.horn_closure.specs.Run.{members_at, copies, count, AreUses}
+use Rattle.horn_closure.proofs.CountLemmas.{same_is, other_is, count-append, members_at-append, copies-push, count-copies_same, count-copies_other}
 
 All-copies : (P : ℕ → Type 0) (n i : ℕ) → P i → All P (copies n i)
 All-copies P zero i h = All-nil P
@@ -20,27 +20,27 @@ All-copies P (suc n) i h = All-cons P i (copies n i) h (All-copies P n i h)
 
 -- a member at the place adds one use
 pub uses_more : (old now : List ℕ) (body : List Basic) (p i k : ℕ) (d : Basic) → k < length body → p ≡ place_of (get_or body k d)
-    → now ≡ old ++ copies (times p (take k body)) i → now ++ i ∷ [] ≡ old ++ copies (times p (take (k + 1) body)) i
+    → now ≡ old ++ copies (members_at p (take k body)) i → now ++ i ∷ [] ≡ old ++ copies (members_at p (take (k + 1) body)) i
 uses_more old now body p i k d inside is h =
     let split : take (k + 1) body ≡ take k body ++ get_or body k d ∷ [] = (take_at_read body k d inside).1 in
-    let one : times p (get_or body k d ∷ []) ≡ 1 = rw (← is, same_is p) refl in
-    let sum : times p (take (k + 1) body) ≡ times p (take k body) + 1 = ap (times p) split ∙ times-append p (take k body) (get_or body k d ∷ []) ∙ ap (λ n. times p (take k body) + n) one in
-    rw (h, sum, add-one) (append_assoc old _ _ ∙ ap (λ (xs : List ℕ). old ++ xs) (copies-push (times p (take k body)) i))
+    let one : members_at p (get_or body k d ∷ []) ≡ 1 = rw (← is, same_is p) refl in
+    let sum : members_at p (take (k + 1) body) ≡ members_at p (take k body) + 1 = ap (members_at p) split ∙ members_at-append p (take k body) (get_or body k d ∷ []) ∙ ap (λ n. members_at p (take k body) + n) one in
+    rw (h, sum, add-one) (append_assoc old _ _ ∙ ap (λ (xs : List ℕ). old ++ xs) (copies-push (members_at p (take k body)) i))
 
 -- a member elsewhere adds none
 pub uses_same : (old now : List ℕ) (body : List Basic) (p i k : ℕ) (d : Basic) → k < length body → p ≢ place_of (get_or body k d)
-    → now ≡ old ++ copies (times p (take k body)) i → now ≡ old ++ copies (times p (take (k + 1) body)) i
+    → now ≡ old ++ copies (members_at p (take k body)) i → now ≡ old ++ copies (members_at p (take (k + 1) body)) i
 uses_same old now body p i k d inside is h =
     let split : take (k + 1) body ≡ take k body ++ get_or body k d ∷ [] = (take_at_read body k d inside).1 in
-    let none : times p (get_or body k d ∷ []) ≡ 0 = rw (other_is p (place_of (get_or body k d)) is) refl in
-    let sum : times p (take (k + 1) body) ≡ times p (take k body) = ap (times p) split ∙ times-append p (take k body) (get_or body k d ∷ []) ∙ (omega arith) in
+    let none : members_at p (get_or body k d ∷ []) ≡ 0 = rw (other_is p (place_of (get_or body k d)) is) refl in
+    let sum : members_at p (take (k + 1) body) ≡ members_at p (take k body) = ap (members_at p) split ∙ members_at-append p (take k body) (get_or body k d ∷ []) ∙ (omega arith) in
     rw sum h
 
 -- after one member of a body
 pub uses_pushed : (old now : List (List ℕ)) (pushed : List ℕ) (body : List Basic) (q p i k : ℕ) (d : Basic) → k < length body → q ≡ place_of (get_or body k d) → q < length now
     → pushed ≡ slice_index_or now q [] ++ i ∷ []
-    → slice_index_or now p [] ≡ slice_index_or old p [] ++ copies (times p (take k body)) i
-    → slice_index_or (set now q pushed) p [] ≡ slice_index_or old p [] ++ copies (times p (take (k + 1) body)) i
+    → slice_index_or now p [] ≡ slice_index_or old p [] ++ copies (members_at p (take k body)) i
+    → slice_index_or (set now q pushed) p [] ≡ slice_index_or old p [] ++ copies (members_at p (take (k + 1) body)) i
 uses_pushed old now pushed body q p i k d inside is below pushed_is h = elim (cases_eq p q) [
   | inl same ↦ let here : slice_index_or (set now q pushed) p [] ≡ slice_index_or now p [] ++ i ∷ [] = rw same (get_or-set_same now q pushed [] below ∙ pushed_is) in
       here ∙ uses_more (slice_index_or old p []) (slice_index_or now p []) body p i k d inside (same ∙ is) h
@@ -50,7 +50,7 @@ uses_pushed old now pushed body q p i k d inside is below pushed_is h = elim (ca
 -- the uses among the inclusions below i
 pub record UsesBelow (inclusions : List Inclusion) (p i : ℕ) (uses : List ℕ) : Type 0 where
   pub inside : All (λ k. k < length inclusions) uses
-  pub below : (j : ℕ) (inclusion : Inclusion) → j < i → slice_get inclusions j ≡ Some inclusion → count j uses ≡ times p inclusion.body
+  pub below : (j : ℕ) (inclusion : Inclusion) → j < i → slice_get inclusions j ≡ Some inclusion → count j uses ≡ members_at p inclusion.body
   pub above : (j : ℕ) → i ≤ j → count j uses ≡ 0
 
 pub below_first : (inclusions : List Inclusion) (p : ℕ) (uses : List ℕ) → uses ≡ [] → UsesBelow inclusions p 0 uses
@@ -58,32 +58,32 @@ below_first inclusions p uses none = rw none (record { inside = All-nil (λ k. k
 
 -- after the members of inclusion i
 pub below_more_uses : (inclusions : List Inclusion) (p i : ℕ) (inclusion : Inclusion) (uses new : List ℕ) → i < length inclusions → slice_get inclusions i ≡ Some inclusion
-    → new ≡ uses ++ copies (times p inclusion.body) i → UsesBelow inclusions p i uses → UsesBelow inclusions p (i + 1) new
+    → new ≡ uses ++ copies (members_at p inclusion.body) i → UsesBelow inclusions p i uses → UsesBelow inclusions p (i + 1) new
 below_more_uses inclusions p i inclusion uses new inside at new_is s = rw new_is (record {
-  inside = All-append (λ k. k < length inclusions) uses _ s.inside (All-copies (λ k. k < length inclusions) (times p inclusion.body) i inside);
+  inside = All-append (λ k. k < length inclusions) uses _ s.inside (All-copies (λ k. k < length inclusions) (members_at p inclusion.body) i inside);
   below = λ j other h at'. below_at j (cases_eq j i) other h at';
   above = λ j h.
       let ne : j ≢ i = omega arith in
-      let split : count j (uses ++ copies (times p inclusion.body) i) ≡ count j uses + count j (copies (times p inclusion.body) i) = count-append j uses _ in
+      let split : count j (uses ++ copies (members_at p inclusion.body) i) ≡ count j uses + count j (copies (members_at p inclusion.body) i) = count-append j uses _ in
       let old : count j uses ≡ 0 = s.above j (omega arith) in
-      let none : count j (copies (times p inclusion.body) i) ≡ 0 = count-copies_other (times p inclusion.body) i j ne in
+      let none : count j (copies (members_at p inclusion.body) i) ≡ 0 = count-copies_other (members_at p inclusion.body) i j ne in
       omega arith;
 })
   where
     below_at : (j : ℕ) → (j ≡ i) ⊎ (j ≢ i) → (other : Inclusion) → j < i + 1 → slice_get inclusions j ≡ Some other
-        → count j (uses ++ copies (times p inclusion.body) i) ≡ times p other.body
+        → count j (uses ++ copies (members_at p inclusion.body) i) ≡ members_at p other.body
     below_at j (inl same) other h at' =
         let one : Some inclusion ≡ Some other = sym at ∙ (rw same at at') in
         let is : inclusion ≡ other = cc in
-        let split : count i (uses ++ copies (times p inclusion.body) i) ≡ count i uses + count i (copies (times p inclusion.body) i) = count-append i uses _ in
+        let split : count i (uses ++ copies (members_at p inclusion.body) i) ≡ count i uses + count i (copies (members_at p inclusion.body) i) = count-append i uses _ in
         let old : count i uses ≡ 0 = s.above i (omega arith) in
-        let new : count i (copies (times p inclusion.body) i) ≡ times p inclusion.body = count-copies_same (times p inclusion.body) i in
-        let sum : count i (uses ++ copies (times p inclusion.body) i) ≡ times p inclusion.body = omega arith in
-        rw same (sum ∙ ap (λ (x : Inclusion). times p x.body) is)
+        let new : count i (copies (members_at p inclusion.body) i) ≡ members_at p inclusion.body = count-copies_same (members_at p inclusion.body) i in
+        let sum : count i (uses ++ copies (members_at p inclusion.body) i) ≡ members_at p inclusion.body = omega arith in
+        rw same (sum ∙ ap (λ (x : Inclusion). members_at p x.body) is)
     below_at j (inr ne) other h at' =
-        let split : count j (uses ++ copies (times p inclusion.body) i) ≡ count j uses + count j (copies (times p inclusion.body) i) = count-append j uses _ in
-        let old : count j uses ≡ times p other.body = s.below j other (omega arith) at' in
-        let none : count j (copies (times p inclusion.body) i) ≡ 0 = count-copies_other (times p inclusion.body) i j ne in
+        let split : count j (uses ++ copies (members_at p inclusion.body) i) ≡ count j uses + count j (copies (members_at p inclusion.body) i) = count-append j uses _ in
+        let old : count j uses ≡ members_at p other.body = s.below j other (omega arith) at' in
+        let none : count j (copies (members_at p inclusion.body) i) ≡ 0 = count-copies_other (members_at p inclusion.body) i j ne in
         omega arith
 
 pub below_all : (inclusions : List Inclusion) (p i : ℕ) (uses : List ℕ) → length inclusions ≤ i → UsesBelow inclusions p i uses → AreUses inclusions p uses

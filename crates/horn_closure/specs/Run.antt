@@ -2,7 +2,7 @@
 use Rattle.std.specs.Prelude.{◌≡◌, ℕ, zero, suc, ◌+◌, ◌-◌, ◌/◌, ◌%◌, ◌<◌, ◌≤◌, ◌⊎◌, ◌↔◌, ◌==◌, List, [], ◌∷◌, ◌++◌, All, length, slice_get, Option, Some, None, slice_index, slice_index_or, if◌then◌else◌}
 use Rattle.std.specs.Int.{bit_at}
 use Rattle.dl_base.specs.Derivation.{Derives}
-use Rattle.dl_base.specs.Ontology.{IsWithin}
+use Rattle.dl_base.specs.Ontology.{Terminology, IsTerminology, IsWithin}
 use Rattle.dl_base.specs.Sets.{place_of, HasBasic}
 use Rattle.dl_base.specs.declared.concept.Basic.{Basic}
 use Rattle.dl_base.specs.declared.concept.Head.TheVariants as head
@@ -15,9 +15,9 @@ count i [] = 0
 count i (k ∷ ks) = (if k == i then 1 else 0) + count i ks
 
 -- how many of the basic concepts have this place
-abbrev pub times : ℕ → List Basic → ℕ
-times p [] = 0
-times p (b ∷ bs) = (if p == place_of b then 1 else 0) + times p bs
+abbrev pub members_at : ℕ → List Basic → ℕ
+members_at p [] = 0
+members_at p (b ∷ bs) = (if p == place_of b then 1 else 0) + members_at p bs
 
 -- how many of the basic concepts have a place that is not in the list
 abbrev pub waiting : List ℕ → List Basic → ℕ
@@ -36,7 +36,7 @@ bit words p = bit_at (slice_index words (p / 64)) (p % 64)
 -- the numbers, counted from 0, of the inclusions with a member at the place, once for each such member
 pub record AreUses (inclusions : List Inclusion) (p : ℕ) (uses : List ℕ) : Type 0 where
   pub inside : All (λ i. i < length inclusions) uses
-  pub counts : (i : ℕ) (inclusion : Inclusion) → slice_get inclusions i ≡ Some inclusion → count i uses ≡ times p inclusion.body
+  pub counts : (i : ℕ) (inclusion : Inclusion) → slice_get inclusions i ≡ Some inclusion → count i uses ≡ members_at p inclusion.body
 
 -- inclusions within the limits of an ontology, and the uses of each place
 pub record AreRules (inclusions : List Inclusion) (uses : List (List ℕ)) : Type 0 where
@@ -44,6 +44,11 @@ pub record AreRules (inclusions : List Inclusion) (uses : List (List ℕ)) : Typ
   pub within : All (IsWithin 512 256) inclusions
   pub places : length uses ≡ 1024
   pub each : (p : ℕ) → p < 1024 → AreUses inclusions p (slice_index_or uses p [])
+
+-- an ontology within the limits, and the uses of each place in its inclusions
+pub record IsReady (o : Terminology) (uses : List (List ℕ)) : Type 0 where
+  pub within : IsTerminology o
+  pub rules : AreRules o.inclusions uses
 
 -- how often inclusion i is used at these places
 abbrev pub uses_at : ℕ → List (List ℕ) → List ℕ → ℕ
@@ -86,7 +91,7 @@ pub record Marks (b : Basic) (old queue new queue' : List ℕ) : Type 0 where
   pub longer : (more : List ℕ) × (queue' ≡ queue ++ more)
 
 -- more is marked, all of it derived from what was, and the queue is longer by it
-pub record Advances (inclusions : List Inclusion) (old queue new queue' : List ℕ) : Type 0 where
+pub record MarksDerived (inclusions : List Inclusion) (old queue new queue' : List ℕ) : Type 0 where
   pub sound : (b : Basic) → HasBasic new b → Derives inclusions (HasBasic old) b
   pub grows : (b : Basic) → HasBasic old b → HasBasic new b
   pub longer : (more : List ℕ) × (queue' ≡ queue ++ more)

@@ -15,9 +15,9 @@ pub struct Closed {
 }
 
 impl Model for Closed {
-    ghost use Rattle.horn_closure.specs.Closure.{Outcome};
+    ghost use Rattle.horn_closure.specs.Closure.{ClosedSet};
 
-    ghost Value = { Outcome };
+    ghost Value = { ClosedSet };
 
     ghost view = { λ c. record { derived = c.derived; violated = c.violated } };
 }

@@ -1,38 +1,40 @@
 //! The rules of an ontology, made ready for closures.
-ghost use Rattle.std.specs.Prelude.{◌≡◌, ◌≤◌, ◌+◌, IfOk, All, length, map};
-ghost use Rattle.dl_base.specs.Ontology.{IsWithin};
+ghost use Rattle.std.specs.Prelude.{◌≡◌, ◌<◌, ◌≤◌, ◌+◌, IfOk, All, length};
+ghost use Rattle.dl_base.specs.Clashes.{role_cmp};
+ghost use Rattle.dl_base.specs.Ontology.{IsTerminology, IsWithin};
 ghost use Rattle.dl_base.specs.Sets.{HasBasic};
-ghost use Rattle.horn_closure.specs.Closure.{IsClosure, IsScratchOf};
+ghost use Rattle.horn_closure.specs.Closure.{IsClosure, IsScratchOf, body_lengths};
 
 use crate::closed::Closed;
 use crate::queue::Queue;
 use crate::run::closure;
 use crate::steps::Steps;
 use crate::uses::all_uses;
-use dl_base::{BasicSet, Inclusion, Items, Ontology};
+use dl_base::{BasicSet, Inclusion, Items, Name, NameBook, Ontology, Role};
 use std::alloc::{AllocError, Global};
+use std::cmp::Ordering;
 use std::marker::Model;
 use std::sync::ledger::Ledger;
 
-/// The inclusions of an ontology, and for each basic concept those with it in the body. Contracts see them as the
-/// inclusions.
+/// An ontology made ready for closures: its names and inclusions, and for each basic concept the inclusions with it in
+/// the body. Contracts see it as the ontology.
 #[derive(Drop)]
 pub struct Rules {
+    concepts: Items<Name>,
+    roles: Items<Name>,
     inclusions: Vec<Inclusion>,
     uses: Vec<Items<u32>>,
 }
 
 impl Model for Rules {
-    ghost use Rattle.std.specs.Prelude.{List};
-    ghost use Rattle.dl_base.specs.declared.concept.Inclusion.{Inclusion as Rule};
+    ghost use Rattle.dl_base.specs.Ontology.{Terminology};
+    ghost use Rattle.horn_closure.specs.Run.{IsReady};
 
-    ghost Value = { List Rule };
+    ghost Value = { Terminology };
 
-    ghost use Rattle.horn_closure.specs.Run.{AreRules};
+    ghost view = { λ r. record { concepts = r.concepts; roles = r.roles; inclusions = r.inclusions.items } };
 
-    ghost view = { λ r. r.inclusions.items };
-
-    ghost invariant = { λ r. AreRules r.inclusions.items r.uses.items };
+    ghost invariant = { λ r. IsReady (record { concepts = r.concepts; roles = r.roles; inclusions = r.inclusions.items }) r.uses.items };
 }
 
 /// Room to compute closures in, one after another. Contracts see it as the number of body members of each of the
@@ -52,13 +54,49 @@ impl Model for Scratch {
 }
 
 impl Rules {
-    /// The rules of the ontology: its inclusions, in order.
+    /// The rules of the ontology.
     pub fn new(alloc: Global, o: &Ontology) -> Result<Rules, AllocError>
-        ensures { IfOk result (λ r. r ≡ o.now.inclusions) }
+        ensures { IfOk result (λ r. r ≡ o.now) }
     {
+        let concepts = copy_names(alloc, o.concepts())?;
+        let roles = copy_names(alloc, o.roles())?;
         let inclusions = copy_all(alloc, o.inclusions())?;
         let uses = all_uses(alloc, o.inclusions())?;
-        Ok(Rules { inclusions, uses })
+        Ok(Rules {
+            concepts,
+            roles,
+            inclusions,
+            uses,
+        })
+    }
+
+    /// The concept names, by their places. It takes no memory.
+    pub fn concepts(&self) -> &[Name]
+        ensures names { result.now ≡ self.now.concepts }
+        ensures within { IsTerminology self.now }
+    {
+        self.concepts.items()
+    }
+
+    /// The role names, by their places. It takes no memory.
+    pub fn roles(&self) -> &[Name]
+        ensures names { result.now ≡ self.now.roles }
+        ensures within { IsTerminology self.now }
+    {
+        self.roles.items()
+    }
+
+    /// How two roles stand to each other in role order: by the bytes of their names, direct before inverse. It takes no
+    /// memory.
+    pub fn compared(&self, r: Role, s: Role) -> Ordering
+        requires first { r.name < length self.now.roles }
+        requires second { s.name < length self.now.roles }
+        ensures { result ≡ role_cmp self.now r s }
+    {
+        let names = self.roles.items();
+        names[r.name as usize]
+            .cmp(&names[s.name as usize])
+            .then(r.inverse.cmp(&s.inverse))
     }
 
     /// Room for closures under these rules.
@@ -82,7 +120,7 @@ impl Rules {
         steps: &mut Steps<L>,
     ) -> Closed
         requires { IsScratchOf self.now scratch.old }
-        ensures closure { IsClosure self.now (HasBasic held.now) result }
+        ensures closure { IsClosure self.now.inclusions (HasBasic held.now) result }
         ensures scratch { scratch.new ≡ scratch.old }
         ensures cost { steps.new ≡ steps.old + 1 }
     {
@@ -101,6 +139,17 @@ impl Rules {
     }
 }
 
+/// The names of the book, by their places.
+fn copy_names(alloc: Global, book: &NameBook) -> Result<Items<Name>, AllocError>
+    ensures { IfOk result (λ names. names ≡ book.now) }
+{
+    let mut names = Items::new(alloc);
+    for id in 0..book.len() as u32 {
+        names.push(book.name(id).copy(alloc)?)?;
+    }
+    Ok(names)
+}
+
 /// The same inclusions.
 fn copy_all(alloc: Global, inclusions: &[Inclusion]) -> Result<Vec<Inclusion>, AllocError>
     ensures { IfOk result (λ v. v.items ≡ inclusions.now) }
@@ -115,7 +164,7 @@ fn copy_all(alloc: Global, inclusions: &[Inclusion]) -> Result<Vec<Inclusion>, A
 /// How many members the body of each inclusion has.
 fn body_lengths(alloc: Global, inclusions: &[Inclusion]) -> Result<Vec<u32>, AllocError>
     requires { All (IsWithin 512 256) inclusions.now }
-    ensures { IfOk result (λ v. v.items ≡ map (λ i. length i.body) inclusions.now) }
+    ensures { IfOk result (λ v. v.items ≡ body_lengths inclusions.now) }
 {
     let mut lengths = Vec::new(alloc);
     for inclusion in inclusions {

@@ -2,8 +2,8 @@
 ghost use Rattle.std.specs.Prelude.{◌≡◌, ◌<◌, ◌≤◌, ◌+◌, ℕ, List, [], ◌∷◌, All, length, take, min, MatchOption, slice_index, slice_index_or};
 ghost use Rattle.dl_base.specs.Ontology.{IsPlaced, IsWithin};
 ghost use Rattle.dl_base.specs.Sets.{HasBasic};
-ghost use Rattle.horn_closure.specs.Closure.{IsClosure, IsScratchOf};
-ghost use Rattle.horn_closure.specs.Run.{AreRules, IsQueueOf, IsRun, Marks, Advances, count, uses_at};
+ghost use Rattle.horn_closure.specs.Closure.{IsClosure, body_lengths};
+ghost use Rattle.horn_closure.specs.Run.{AreRules, IsQueueOf, IsRun, Marks, MarksDerived, count, uses_at};
 
 use crate::queue::Queue;
 use crate::seeds::queue_all;
@@ -25,7 +25,7 @@ pub(crate) fn closure(
     queue: &mut Queue,
 ) -> Found
     requires rules { AreRules inclusions.now uses.now }
-    requires clean { IsScratchOf inclusions.now left.old }
+    requires clean { left.old ≡ body_lengths inclusions.now }
     ensures closure { IsClosure inclusions.now (HasBasic held.now) (record { derived = result.derived; violated = result.violated }) }
     ensures clean { left.new ≡ left.old }
 {
@@ -51,7 +51,7 @@ fn saturate(
     requires rules { AreRules inclusions.now uses.now }
     requires run { IsRun inclusions.now [] [] queue.old found.old left.old }
     ensures run { IsRun inclusions.now [] queue.new queue.new found.new left.new }
-    ensures advances { Advances inclusions.now found.old.derived queue.old found.new.derived queue.new }
+    ensures advances { MarksDerived inclusions.now found.old.derived queue.old found.new.derived queue.new }
 {
     let mut head = 0;
     while head < queue.len() {
@@ -73,7 +73,7 @@ fn visit(
     requires inside { head < length queue.old }
     requires run { IsRun inclusions.now [] (take head queue.old) queue.old found.old left.old }
     ensures run { IsRun inclusions.now [] (take (head + 1) queue.new) queue.new found.new left.new }
-    ensures advances { Advances inclusions.now found.old.derived queue.old found.new.derived queue.new }
+    ensures advances { MarksDerived inclusions.now found.old.derived queue.old found.new.derived queue.new }
 {
     let place = queue.places()[head] as usize;
     for i in uses[place].items() {
@@ -90,7 +90,7 @@ fn settle(inclusions: &[Inclusion], i: u32, left: &mut [u32], queue: &mut Queue,
     requires some { 0 < slice_index left.old i }
     requires marks { IsQueueOf found.old.derived queue.old }
     ensures { (remaining visited : List ℕ) → IsRun inclusions.now (i ∷ remaining) visited queue.old found.old left.old
-        → IsRun inclusions.now remaining visited queue.new found.new left.new × Advances inclusions.now found.old.derived queue.old found.new.derived queue.new }
+        → IsRun inclusions.now remaining visited queue.new found.new left.new × MarksDerived inclusions.now found.old.derived queue.old found.new.derived queue.new }
 {
     let at = i as usize;
     left[at] -= 1;

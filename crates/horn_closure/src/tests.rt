@@ -11,6 +11,7 @@ use dl_base::{
     Ontology, Role,
 };
 use std::alloc::Global;
+use std::cmp::Ordering;
 use std::marker::Brand;
 use std::process::Abort;
 use std::sync::ledger::{Blank, Ledger};
@@ -182,12 +183,31 @@ fn assert_all<L: Ledger>(
     }
 }
 
+/// Asserts the names, and that names come before directions in role order.
+fn assert_roles(rt: &impl Abort, rules: &Rules) {
+    assert_eq!(rt; rules.concepts().len(), 6);
+    assert_eq!(rt; rules.roles().len(), 2);
+    let (r, s) = (
+        Role {
+            name: 0,
+            inverse: true,
+        },
+        Role {
+            name: 1,
+            inverse: false,
+        },
+    );
+    assert_eq!(rt; rules.compared(r, s), Ordering::Less);
+    assert_eq!(rt; rules.compared(r, r.inverted()), Ordering::Greater);
+}
+
 fn assert_worked<L: Ledger>(rt: &impl Abort, alloc: Global, blank: Blank) -> Result<(), Fail>
     requires name { blank.name ≡ L.name }
     requires parts { blank.parts ≡ L.parts }
     requires some { 0 < L.parts }
 {
     let rules = Rules::new(alloc, &ontology(rt, alloc)?)?;
+    assert_roles(rt, &rules);
     let mut scratch = rules.scratch(alloc)?;
     let mut steps: Steps<L> = Steps::new(blank);
     assert_all(rt, &rules, &mut scratch, &mut steps);

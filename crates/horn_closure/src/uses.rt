@@ -1,7 +1,7 @@
 //! For each basic concept, the inclusions that it stands in the body of.
 ghost use Rattle.std.specs.Prelude.{◌≡◌, ◌<◌, ◌≤◌, ◌++◌, IfOk, OnOk, length, All, ℕ, [], slice_index_or};
 ghost use Rattle.dl_base.specs.Ontology.{IsPlaced, IsWithin};
-ghost use Rattle.horn_closure.specs.Run.{AreUses, copies, times};
+ghost use Rattle.horn_closure.specs.Run.{AreUses, copies, members_at};
 
 use dl_base::{Basic, Inclusion, Items, PLACES, place};
 use std::alloc::{AllocError, Global};
@@ -40,7 +40,7 @@ fn no_uses(alloc: Global) -> Result<Vec<Items<u32>>, AllocError>
 fn add_uses(uses: &mut [Items<u32>], body: &[Basic], i: u32) -> Result<(), AllocError>
     requires places { length uses.old ≡ 1024 }
     requires within { All (IsPlaced 512 256) body.now }
-    ensures { OnOk result ((p : ℕ) → p < 1024 → slice_index_or uses.new p [] ≡ slice_index_or uses.old p [] ++ copies (times p body.now) i) }
+    ensures { OnOk result ((p : ℕ) → p < 1024 → slice_index_or uses.new p [] ≡ slice_index_or uses.old p [] ++ copies (members_at p body.now) i) }
 {
     for b in body {
         uses[place(*b)].push(i)?;

@@ -22,7 +22,7 @@ use Rattle.dl_base.specs.declared.row.Row.{Row}
 use Rattle.dl_base.specs.declared.row.Row.TheVariants as row
 use Rattle.dl_base.proofs.DerivationLemmas.{monotone}
 use Rattle.dl_base.proofs.RowLemmas.{contains_cut, individual_through}
-use Rattle.horn_closure.specs.Closure.{IsClosure, Outcome}
+use Rattle.horn_closure.specs.Closure.{IsClosure, ClosedSet}
 use Rattle.plain_tables.specs.Kept.{table_row}
 use Rattle.dl_base.proofs.PlaceLemmas.{one_place, some_same}
 use Rattle.answer_core.specs.AnswerLaws.{HasNoSuccessorHead}
@@ -309,7 +309,7 @@ module _ (o : Terminology) (held : List Row) where
   table_later n x (of_role c is) = of_role c is
   table_later n x (derived c m below few d) = derived c m (omega (arith, below)) few d
 
-  module _ (count n : ℕ) (sets : List (List ℕ)) (set : List ℕ) (outcome : Outcome) (are : AreHeldSets held count sets) (at : slice_get sets n ≡ Some set) (closure : IsClosure o.inclusions (HasBasic set) outcome)
+  module _ (count n : ℕ) (sets : List (List ℕ)) (set : List ℕ) (outcome : ClosedSet) (are : AreHeldSets held count sets) (at : slice_get sets n ≡ Some set) (closure : IsClosure o.inclusions (HasBasic set) outcome)
       (most : ℕ) (all : most ≡ length o.concepts) where
     has_derived : (b : Basic) → HasBasic outcome.derived b ↔ Derives o.inclusions (HoldsBy held n) b
     has_derived b = (

@@ -1,15 +1,14 @@
-use Rattle.std.proofs.Common.{◌≡◌, ◌<◌, List, length, refl, ◌∙◌, ap, subst, arith}
+use Rattle.std.proofs.Common.{◌≡◌, ◌<◌, length, refl, ◌∙◌, ap, subst, arith}
 use Rattle.std.proofs.lemmas.Option.{slice_get_read}
-use Rattle.dl_base.specs.Ontology.{IsTerminology}
+use Rattle.dl_base.specs.Ontology.{Terminology, IsTerminology}
 use Rattle.dl_base.specs.Sets.{HasBasic}
-use Rattle.dl_base.specs.declared.concept.Inclusion.{Inclusion}
 use Rattle.horn_closure.specs.Closure.{IsClosure, IsScratchOf}
 use Rattle.obda_run.proofs.CompletedLemmas.{completed_none, completed_more, completed_result, ok_anyway}
 use Rattle.obda_run.proofs.completed.completed_tables.Goals as goal
 
 pub loop-individual-init : goal.loop-individual-init
 loop-individual-init g c = record {
-  scratch = subst (λ (is : List Inclusion). IsScratchOf is c.in_ok-scratch.scratch) c.in_ok-rules.ensures c.in_ok-scratch.ensures;
+  scratch = subst (λ (t : Terminology). IsScratchOf t c.in_ok-scratch.scratch) c.in_ok-rules.ensures c.in_ok-scratch.ensures;
   rows = completed_none c.args.ontology.now c.args.facts.now.rows.keys c.in_ok-rows.rows c.in_ok-rows.ensures;
 }
 
@@ -21,7 +20,7 @@ loop-individual-preserved g c =
     let n = c.loop-individual.individual in
     let all : c.len-concepts.result ≡ length o.concepts = c.len-concepts.ensures.len ∙ ap length c.concepts.ensures.names in
     let below : n < length sets = (let a = c.loop-individual-test.true in let b = c.len-individual-end.ensures.len in let d = c.in_ok-held.ensures.each in omega arith) in
-    let closure = subst (λ (is : List Inclusion). IsClosure is (HasBasic c.index.result.now) c.close-closed.result) c.in_ok-rules.ensures c.close-closed.ensures.closure in
+    let closure = subst (λ (t : Terminology). IsClosure t.inclusions (HasBasic c.index.result.now) c.close-closed.result) c.in_ok-rules.ensures c.close-closed.ensures.closure in
     record {
       scratch = c.close-closed.ensures.scratch ∙ c.loop-individual.invariant.scratch;
       rows = completed_more o keys (length c.args.facts.now.individuals) n sets c.index.result.now c.close-closed.result c.in_ok-held.ensures

@@ -1,0 +1,5 @@
+pub mod ClosuresLemmas
+pub mod OutsideLemmas
+pub mod PointsLemmas
+pub mod ReachedLemmas
+pub mod SetLemmas

@@ -1,0 +1,19 @@
+-- What a graph of the roles of an ontology is.
+use Rattle.std.specs.Prelude.{◌<◌, List, length}
+use Rattle.dl_base.specs.Ontology.{Terminology, IsTerminology}
+use Rattle.dl_base.specs.declared.concept.Role.{Role}
+use Rattle.role_graph.specs.Behind.{AreClosures}
+use Rattle.role_graph.specs.declared.closures.BothWays.{BothWays}
+
+-- for each role name, by its place, what is derived behind it and behind its inverse
+pub record Graph : Type 0 where
+  pub closed : List BothWays
+
+-- it is the graph of the ontology
+pub record IsGraphOf (o : Terminology) (g : Graph) : Type 0 where
+  pub within : IsTerminology o
+  pub closures : AreClosures o.inclusions (length o.roles) g.closed
+
+-- the graph has the role
+abbrev pub HasNode : Graph → Role → Type 0
+HasNode g r = r.name < length g.closed

@@ -1,0 +1,103 @@
+//! The graph of the roles of an ontology.
+ghost use Rattle.std.specs.Prelude.{◌≡◌, ◌↔◌, ◌≤◌, ◌+◌, ◌*◌, IfOk, OnOk, IsTrue, List, length};
+ghost use Rattle.dl_base.specs.Completion.{IsLive, RolePoints};
+ghost use Rattle.dl_base.specs.Ontology.{Terminology};
+ghost use Rattle.dl_base.specs.Sets.{HasRole};
+ghost use Rattle.dl_base.specs.declared.concept.Role.{Role as AnyRole};
+ghost use Rattle.dl_base.specs.declared.row.NamedRow.{NamedRow};
+ghost use Rattle.horn_closure.specs.Closure.{IsClosure, IsScratchOf};
+ghost use Rattle.role_graph.specs.Behind.{HeldBehind};
+ghost use Rattle.role_graph.specs.Graph.{HasNode, IsGraphOf};
+ghost use Rattle.role_graph.specs.Reached.{ArePointedTo, IsReached};
+
+use crate::closures::{BothWays, closures};
+use dl_base::{Basic, Role, RoleSet};
+use horn_closure::{Closed, Rules, Scratch, Steps};
+use std::alloc::{AllocError, Global};
+use std::marker::Model;
+use std::sync::ledger::Ledger;
+
+/// What is derived behind each role of an ontology. Contracts see it by the places of the role names.
+#[derive(Drop)]
+pub struct RoleGraph {
+    closed: Vec<BothWays>,
+}
+
+impl Model for RoleGraph {
+    ghost use Rattle.std.specs.Prelude.{◌≤◌, length};
+    ghost use Rattle.role_graph.specs.Graph.{Graph};
+
+    ghost Value = { Graph };
+
+    ghost view = { λ g. record { closed = g.closed.items } };
+
+    ghost invariant = { λ g. length g.closed.items ≤ 256 };
+}
+
+impl RoleGraph {
+    /// The graph of the ontology's roles. It takes two steps for each role name, also where it finds no memory at most so
+    /// many.
+    pub fn new<L: Ledger>(
+        alloc: Global,
+        rules: &Rules,
+        scratch: &mut Scratch,
+        steps: &mut Steps<L>,
+    ) -> Result<RoleGraph, AllocError>
+        requires { IsScratchOf rules.now scratch.old }
+        ensures graph { IfOk result (IsGraphOf rules.now) }
+        ensures scratch { scratch.new ≡ scratch.old }
+        ensures cost { OnOk result (steps.new ≡ steps.old + 2 * length rules.now.roles) }
+        ensures most { steps.new ≤ steps.old + 2 * length rules.now.roles }
+    {
+        let closed = closures(alloc, rules, scratch, steps)?;
+        Ok(RoleGraph { closed })
+    }
+
+    /// Whether the role is one of the ontology. It takes no memory, nor do the calls below.
+    pub fn has_role(&self, r: Role) -> bool
+        ensures { IsTrue result ↔ HasNode self.now r }
+    {
+        (r.name as usize) < self.closed.len()
+    }
+
+    /// The closure of what is held behind the role.
+    pub fn closed_of(&self, r: Role) -> &Closed
+        requires { HasNode self.now r }
+        ensures { (o : Terminology) → IsGraphOf o self.now → IsClosure o.inclusions (HeldBehind r) result.now }
+    {
+        self.closed[r.name as usize].of(r.inverse)
+    }
+
+    /// Whether the witness of s points to that of r.
+    pub fn spawns(&self, s: Role, r: Role) -> bool
+        ensures { (o : Terminology) → IsGraphOf o self.now → IsTrue result ↔ RolePoints o s r }
+    {
+        self.has_role(s) && self.closed_of(s).has(Basic::Exists(r)) && r != s.inverted()
+    }
+
+    /// The roles to which a chain of points leads from one of these, and these themselves. From the roles to which
+    /// individuals point these are the live roles.
+    pub fn live(&self, from: &RoleSet) -> RoleSet
+        ensures reached { (o : Terminology) → IsGraphOf o self.now → (r : AnyRole) → HasRole result r ↔ IsReached o (HasRole from.now) r }
+        ensures live { (o : Terminology) (rows : List NamedRow) → IsGraphOf o self.now → ArePointedTo o rows (HasRole from.now)
+            → (r : AnyRole) → HasRole result r ↔ IsLive o rows r }
+        ensures inside { (o : Terminology) → IsGraphOf o self.now → ((r : AnyRole) → HasRole from.now r → HasNode self.now r)
+            → (r : AnyRole) → HasRole result r → HasNode self.now r }
+    {
+        let mut live = *from;
+        let mut done = RoleSet::new();
+        while let Some(s) = self.waiting(&live, &done) {
+            done.add(s);
+            self.add_points(s, &mut live);
+        }
+        live
+    }
+
+    /// How many role names the ontology has.
+    pub(crate) fn names(&self) -> u32
+        ensures names { result ≡ length self.now.closed }
+        ensures few { result ≤ 256 }
+    {
+        self.closed.len() as u32
+    }
+}

@@ -1,0 +1,134 @@
+//! Points and live roles of small ontologies, by hand.
+ghost use Rattle.std.specs.Prelude.{◌≡◌, ◌<◌, ◌≤◌, false};
+
+use crate::RoleGraph;
+use axiom_reader::read_axiom;
+use dl_base::{Basic, Ontology, Role, RoleSet};
+use horn_closure::{Rules, Steps};
+use std::alloc::{AllocError, Global};
+use std::marker::Brand;
+use std::process::Abort;
+use std::sync::ledger::{Blank, Ledger};
+use std::test::Fail;
+
+/// A loop of the roles 0, 1 and 2; a role 3 that points to itself and, by two conditions of which one is never met, not
+/// to 0; and a role 4 behind which nothing but the way back is derived.
+const AXIOMS: [&[u8]; 6] = [
+    b"SubClassOf(Some(Inv(a)) Some(b))",
+    b"SubClassOf(Some(Inv(b)) Some(Inv(c)))",
+    b"SubClassOf(Some(c) Some(a))",
+    b"SubClassOf(Some(Inv(d)) Some(d))",
+    b"SubClassOf(And(Some(Inv(d)) A) Some(a))",
+    b"SubClassOf(Some(Inv(e)) Some(Inv(e)))",
+];
+
+fn role(name: u32) -> Role
+    ensures { result ≡ record { name = name; inverse = false } }
+{
+    Role {
+        name,
+        inverse: false,
+    }
+}
+
+fn extended(alloc: Global, o: Ontology, text: &[u8]) -> Result<Ontology, Fail> {
+    match read_axiom(alloc, text) {
+        Ok(axiom) => Ok(o.extend(alloc, &axiom)?),
+        Err(_) => Err(AllocError)?,
+    }
+}
+
+fn small(alloc: Global) -> Result<Ontology, Fail> {
+    let mut o = Ontology::new(alloc)?;
+    for text in AXIOMS {
+        o = extended(alloc, o, text)?;
+    }
+    Ok(o)
+}
+
+/// Each of 256 roles points to the next, and the last to the first.
+fn round(alloc: Global) -> Result<Ontology, Fail> {
+    let mut o = Ontology::new(alloc)?;
+    for name in 0..256u32 {
+        let next = (name + 1) % 256;
+        let text = format!(in alloc; "SubClassOf(Some(Inv(r{name})) Some(r{next}))")?;
+        o = extended(alloc, o, text.as_bytes())?;
+    }
+    Ok(o)
+}
+
+fn graph_of<L: Ledger>(
+    alloc: Global,
+    o: &Ontology,
+    steps: &mut Steps<L>,
+) -> Result<RoleGraph, Fail> {
+    let rules = Rules::new(alloc, o)?;
+    let mut scratch = rules.scratch(alloc)?;
+    Ok(RoleGraph::new(alloc, &rules, &mut scratch, steps)?)
+}
+
+/// What is reached from one role.
+fn live_from(graph: &RoleGraph, r: Role) -> RoleSet
+    requires { r.name < 256 }
+{
+    let mut from = RoleSet::new();
+    from.add(r);
+    graph.live(&from)
+}
+
+fn assert_points(rt: &impl Abort, graph: &RoleGraph) {
+    let (a, b, c, d, e) = (role(0), role(1), role(2), role(3), role(4));
+    assert!(rt;
+        graph.spawns(a, b) && graph.spawns(b, c.inverted()) && graph.spawns(c.inverted(), a)
+    );
+    assert!(rt;
+        !graph.spawns(a, c.inverted()) && !graph.spawns(a, a.inverted()) && !graph.spawns(b, a)
+    );
+    assert!(rt; graph.spawns(d, d) && !graph.spawns(d, a) && !graph.spawns(d, d.inverted()));
+    assert!(rt; !graph.spawns(e, e.inverted()) && !graph.spawns(e, e) && !graph.spawns(c, a));
+    assert!(rt; !graph.spawns(role(9), role(9).inverted()) && !graph.has_role(role(9)));
+    assert!(rt; graph.has_role(a));
+    let behind = graph.closed_of(a);
+    assert!(rt; behind.has(Basic::Exists(a.inverted())) && behind.has(Basic::Exists(b)));
+    assert!(rt; !behind.has(Basic::Exists(a)) && !behind.has(Basic::Concept(0)));
+    assert_eq!(rt; behind.violated(), None);
+}
+
+fn assert_live(rt: &impl Abort, graph: &RoleGraph) {
+    let (a, b, c, d) = (role(0), role(1), role(2), role(3));
+    let live = live_from(graph, a);
+    assert!(rt; live.has(a) && live.has(b) && live.has(c.inverted()));
+    assert!(rt; !live.has(c) && !live.has(d) && !live.has(a.inverted()));
+    let live = live_from(graph, d);
+    assert!(rt; live.has(d) && !live.has(a));
+    let live = live_from(graph, role(200));
+    assert!(rt; live.has(role(200)) && !live.has(a));
+}
+
+fn assert_round(rt: &impl Abort, graph: &RoleGraph) {
+    let live = live_from(graph, role(17));
+    for name in 0..256 {
+        assert!(rt;
+            live.has(role(name)) && !live.has(role(name).inverted()),
+            "at {name}"
+        );
+    }
+}
+
+fn assert_graphs<L: Ledger>(rt: &impl Abort, alloc: Global, blank: Blank) -> Result<(), Fail>
+    requires name { blank.name ≡ L.name }
+    requires parts { blank.parts ≡ L.parts }
+    requires some { 0 < L.parts }
+{
+    let mut steps: Steps<L> = Steps::new(blank);
+    let graph = graph_of(alloc, &small(alloc)?, &mut steps)?;
+    assert_points(rt, &graph);
+    assert_live(rt, &graph);
+    assert_round(rt, &graph_of(alloc, &round(alloc)?, &mut steps)?);
+    Ok(())
+}
+
+#[test]
+fn points_and_live_roles(rt: HostRuntime) -> Result<(), Fail> {
+    assert_graphs::<Brand>(&rt, rt.alloc(), Blank::new(1))
+}
