@@ -152,7 +152,7 @@ reads_spelled_name {text} = record {
 
 -- ---- so many texts
 
-same_none : {V : Type 0} {g : Grammar V} → Same (means []) (exactly 0 g)
+pub same_none : {V : Type 0} {g : Grammar V} → Same (means []) (exactly 0 g)
 same_none {V} {g} = record {
   to = λ t vs s. subst (λ (l : List V). exactly 0 g t l) (sym s.1) (s.0, omega arith, omega arith);
   back = λ t vs s. empty t vs s.0 s.2;
@@ -173,7 +173,7 @@ one_more g n t (v ∷ vs) m least most = record {
   in_second = record { front = m.1; back = []; met = vs; parts = sym (append-nil m.1); in_first = (m.4, omega (arith, least), omega (arith, most)); in_second = (refl, refl) };
 }
 
-same_some : {V : Type 0} {g : Grammar V} (n : ℕ) → Same (g >>= λ v. exactly n g >>= λ vs. means (v ∷ vs)) (exactly (suc n) g)
+pub same_some : {V : Type 0} {g : Grammar V} (n : ℕ) → Same (g >>= λ v. exactly n g >>= λ vs. means (v ∷ vs)) (exactly (suc n) g)
 same_some {V} {g} n = record {
   to = λ t ws s.
       let q = s.in_second in

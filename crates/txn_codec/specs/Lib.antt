@@ -4,5 +4,8 @@ pub mod Spelling
 pub mod Room
 pub mod PiecesReading
 pub mod ChangesReading
+pub mod Checked
+pub mod OntologyPayload
+pub mod OntologyReading
 pub mod Fault
 pub mod Laws

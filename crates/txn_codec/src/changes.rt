@@ -3,11 +3,11 @@
 ghost use Rattle.std.specs.Prelude.{◌≡◌, ◌+◌, ◌≤◌, ◌++◌, length, OnOk, OnErr, IsOk, All, vec_len, vec_capacity};
 ghost use Rattle.std.specs.List.{flat_map};
 ghost use Rattle.txn_codec.specs.Changes.{changes_payload};
-ghost use Rattle.txn_codec.specs.Spelling.{name_bytes, row_bytes, change_bytes, changes_bytes, HasNames};
+ghost use Rattle.txn_codec.specs.Spelling.{row_bytes, change_bytes, changes_bytes, HasNames};
 ghost use Rattle.txn_codec.specs.Room.{HasRoom, Appends};
 
-use crate::put::{put, put_name};
-use dl_base::{Name, NamedChange, NamedRow};
+use crate::put::{name_len, put, put_name};
+use dl_base::{NamedChange, NamedRow};
 use std::alloc::AllocError;
 
 /// How many bytes `write_changes` appends for these changes. It takes no memory.
@@ -33,14 +33,6 @@ fn row_len(row: &NamedRow) -> u64
         } => 1 + name_len(concept) + name_len(individual),
         NamedRow::Role { role, from, to } => 1 + name_len(role) + name_len(from) + name_len(to),
     }
-}
-
-#[tactic(auto, using(crate::proofs::SpelledNames::is_name_len))]
-fn name_len(name: &Name) -> u64
-    ensures len { result ≡ length (name_bytes name.now) }
-    ensures most { result ≤ 256 }
-{
-    1 + name.bytes().len() as u64
 }
 
 /// Appends the payload of these changes. At `AllocError` the bytes are as they were; it doesn't come where they have

@@ -13,6 +13,17 @@ use dl_base::{Name, is_reserved};
 use grammar::{Kind, ReadError, expect, next_is_kind, run};
 use std::alloc::Global;
 
+/// A number of 2 bytes.
+#[tactic(auto, unfolding(crate::specs::PiecesReading::number_at))]
+pub(crate) fn read_u16(text: &[u8]) -> Result<(u16, &[u8]), ReadError>
+    ensures { Gives (λ x. (x.0, x.1.now)) result (number_at 2 text.now) }
+{
+    if text.len() < 2 {
+        return Err(ReadError::Fault(0));
+    }
+    Ok((BigEndian::read_u16(text), &text[2..]))
+}
+
 /// A number of 4 bytes.
 #[tactic(auto, unfolding(crate::specs::PiecesReading::number_at))]
 pub(crate) fn read_u32(text: &[u8]) -> Result<(u32, &[u8]), ReadError>
