@@ -71,8 +71,8 @@ impl Name {
         Ok(Name { bytes })
     }
 
-    /// The name with these bytes.
-    pub(crate) fn from_vec(bytes: Vec<u8>) -> Name
+    /// The name with these bytes. It takes no memory.
+    pub fn from_vec(bytes: Vec<u8>) -> Name
         requires { IsName bytes.items }
         ensures { result ≡ bytes.items }
     {

@@ -122,6 +122,8 @@ impl Ontology {
     }
 }
 
+mod parts;
+
 /// Adds names and inclusions to the three lists of an ontology, or tells the first limit that they pass.
 fn add_statement(
     alloc: Global,

@@ -1,0 +1,13 @@
+pub mod Lists
+pub mod Runs
+pub mod SizedNames
+pub mod SpelledNames
+pub mod ChangesRules
+pub mod Writing
+pub mod SpelledChanges
+pub mod CheckedRules
+pub mod ChecksLists
+pub mod OntologyRules
+pub mod Flawless
+pub mod WholeOntology
+pub mod SpelledOntology

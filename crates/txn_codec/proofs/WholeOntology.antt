@@ -1,0 +1,117 @@
+-- What reading all bytes of an ontology gives.
+use Rattle.std.proofs.Common.{◌≡◌, ℕ, zero, suc, ◌+◌, ◌-◌, ◌≤◌, Bool, true, false, List, [], ◌∷◌, ◌++◌, length, take, drop, Result, Ok, Err, refl, sym, ap, subst, ◌∙◌, arith, inl, inr, Contains, append_assoc, Some, slice_get}
+use Rattle.std.specs.List.{list_any}
+use Rattle.std.specs.Str.{bytes_eq}
+use Rattle.std.proofs.lemmas.Bool.{cases_lt}
+use Rattle.std.proofs.lemmas.List.{take-append-drop, take-append-le, length-take}
+use Rattle.grammar.specs.Reading.{Outcome, whole}
+use Rattle.grammar.specs.Grammar.{Grammar, Begins, IsFaultAt}
+use Rattle.grammar.specs.Grammar.{Contains as HasValue}
+use Rattle.grammar.proofs.Exact.{IsExact, Anything, Nothing, IsWhole, exact_fewer, exact_whole}
+use Rattle.dl_base.specs.Ontology.{Terminology}
+use Rattle.txn_codec.specs.Checked.{Checked, IsLeastFault}
+use Rattle.txn_codec.specs.OntologyPayload.{ontology, ontology_payload}
+use Rattle.txn_codec.specs.PiecesReading.{name_length_at, spelled_name_at}
+use Rattle.txn_codec.specs.OntologyReading.{new_name_at, ontology_at}
+use Rattle.txn_codec.proofs.CheckedRules.{IsChecked, IsFlawed}
+use Rattle.txn_codec.proofs.OntologyRules.{contains_any, any_contains, checks_ontology}
+use Rattle.txn_codec.proofs.Flawless.{flawless}
+
+-- what begins a text of the grammar does so with fewer bytes
+begins_less : {V : Type 0} (g : Grammar V) (text : List ℕ) (n m : ℕ) → m ≤ n → n ≤ length text → Begins g (take n text) → Begins g (take m text)
+begins_less g text n m le within b =
+    let front : take m (take n text) ≡ take m text =
+    sym (take-append-le m (take n text) (drop n text) (omega (arith, le, within, length-take n text))) ∙ ap (λ (a : List ℕ). take m a) (take-append-drop n text) in
+    let cut : take m text ++ (drop m (take n text) ++ b.0) ≡ take n text ++ b.0 =
+    ap (λ (a : List ℕ). a ++ (drop m (take n text) ++ b.0)) (sym front) ∙ sym (append_assoc (take m (take n text)) (drop m (take n text)) b.0) ∙ ap (λ (a : List ℕ). a ++ b.0) (take-append-drop m (take n text)) in
+    (drop m (take n text) ++ b.0, b.1, subst (λ (a : List ℕ). g a b.1) (sym cut) b.2)
+
+not_before : {V : Type 0} (g : Grammar V) (text : List ℕ) (place at : ℕ) → place ≤ length text → Begins g (take place text) → IsFaultAt g text at → place ≤ at
+not_before g text place at within b f = elim (cases_lt at place) [
+  | inl lt ↦ absurd (f.here (omega (arith, lt, within)) (begins_less g text place (at + 1) (omega (arith, lt)) within b))
+  | inr le ↦ le
+]
+
+-- what a reading of all bytes gives
+pub record IsOne {V : Type 0} (c : Checked V) (text : List ℕ) (v : V) : Type 0 where
+  pub is : c.loose text v
+  pub only : (w : V) → c.loose text w → w ≡ v
+
+pub record IsRefused {V : Type 0} (c : Checked V) (text : List ℕ) (left : ℕ) : Type 0 where
+  pub within : left ≤ length text
+  pub least : IsLeastFault c text (length text - left)
+
+abbrev pub IsWholeChecked : {V : Type 0} → Checked V → List ℕ → Result V ℕ → Type 0
+IsWholeChecked c text (Ok v) = IsOne c text v
+IsWholeChecked c text (Err left) = IsRefused c text left
+
+loose_fault : {V : Type 0} (c : Checked V) (text : List ℕ) (left : ℕ) → left ≤ length text → IsFaultAt c.loose text (length text - left) → ((at : ℕ) → c.flaw text at → ⊥) → IsRefused c text left
+loose_fault c text left within f clean = record {
+  within = within;
+  least = record {
+    here = inl f;
+    no_fault_before = λ at f'. not_before c.loose text (length text - left) at f.within f.before f';
+    no_flaw_before = λ at f'. absurd (clean at f');
+  };
+}
+
+first_flaw : {V : Type 0} (c : Checked V) (text : List ℕ) (left : ℕ) → IsFlawed c text left → IsRefused c text left
+first_flaw c text left e =
+    let place : e.place ≡ length text - left = omega (arith, e.left_is) in
+    record {
+      within = omega (arith, e.left_is);
+      least = subst (λ (n : ℕ). IsLeastFault c text n) place record {
+        here = inr e.is;
+        no_fault_before = λ at f. not_before c.loose text e.place at (omega (arith, e.left_is)) e.begins f;
+        no_flaw_before = e.least;
+      };
+    }
+
+nothing_else : {V : Type 0} (g : Grammar V) (text : List ℕ) (r : Outcome V) → IsExact g Anything text r → IsWhole g text (whole r)
+nothing_else g text r e = exact_whole g text r (exact_fewer g Anything Nothing text r (λ v k f. tt) e)
+
+checked_whole : {V : Type 0} (c : Checked V) (text : List ℕ) (r : Outcome V) → IsChecked c text r → IsWholeChecked c text (whole r)
+checked_whole c text (Ok (v, [])) e = let p = nothing_else c.loose text (Ok (v, [])) e.read in record { is = p.is; only = p.only }
+checked_whole c text (Ok (v, x ∷ xs)) e =
+    let p = nothing_else c.loose text (Ok (v, x ∷ xs)) e.read in
+    loose_fault c text (length (x ∷ xs)) p.within p.fault e.clean
+checked_whole c text (Err left) (inl e) =
+    let p = nothing_else c.loose text (Err left) e.fault in
+    loose_fault c text left p.within p.fault e.clean
+checked_whole c text (Err left) (inr e) = first_flaw c text left e
+
+pub whole_ontology : (text : List ℕ) (r : Result Terminology ℕ) → whole (ontology_at text) ≡ r → IsWholeChecked ontology text r
+whole_ontology text r e = subst (λ (x : Result Terminology ℕ). IsWholeChecked ontology text x) e (checked_whole ontology text (ontology_at text) (checks_ontology text).is)
+
+-- where there is a fault or a flaw, the bytes are no payload
+pub no_payload : (text : List ℕ) (at : ℕ) → IsLeastFault ontology text at → HasValue ontology_payload text → ⊥
+no_payload text at l s = elim (l.here) [
+  | inl f ↦ f.outside (s.0, s.1.0)
+  | inr f ↦ flawless text s.0 at s.1 f
+]
+
+-- ---- names
+
+pub some_bytes : (text : List ℕ) (x : List ℕ × List ℕ) → spelled_name_at text ≡ Ok x → 1 ≤ length text
+unfolding spelled_name_at name_length_at
+some_bytes [] x e = absurd (cc)
+some_bytes (c ∷ cs) x e = omega arith
+
+pub known_name : (earlier : List (List ℕ)) (text name rest : List ℕ) → spelled_name_at text ≡ Ok (name, rest) → Contains earlier name → new_name_at earlier text ≡ Err (length text - 1)
+unfolding new_name_at
+known_name earlier text name rest e c = rw (e, contains_any earlier name c) refl
+
+pub unknown_name : (earlier : List (List ℕ)) (text name rest : List ℕ) → spelled_name_at text ≡ Ok (name, rest) → (Contains earlier name → ⊥) → new_name_at earlier text ≡ Ok (name, rest)
+unfolding new_name_at
+unknown_name earlier text name rest e c =
+    let none : list_any (bytes_eq name) earlier ≡ false = by (list_any (bytes_eq name) earlier) refl in
+    rw (e, none) refl
+  where
+    by : (b : Bool) → list_any (bytes_eq name) earlier ≡ b → b ≡ false
+    by true h = absurd (c (any_contains earlier name h))
+    by false h = refl
+
+pub contains_at : (names : List (List ℕ)) (k : ℕ) (name : List ℕ) → slice_get names k ≡ Some name → Contains names name
+contains_at [] k name e = absurd (cc)
+contains_at (x ∷ xs) zero name e = let same : x ≡ name = cc in (0, omega arith, same)
+contains_at (x ∷ xs) (suc k) name e = let c = contains_at xs k name e in (suc c.0, omega (arith, c.1), c.2)

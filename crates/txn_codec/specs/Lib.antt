@@ -1,0 +1,11 @@
+pub mod Pieces
+pub mod Changes
+pub mod Spelling
+pub mod Room
+pub mod PiecesReading
+pub mod ChangesReading
+pub mod Checked
+pub mod OntologyPayload
+pub mod OntologyReading
+pub mod Fault
+pub mod Laws
