@@ -7,6 +7,8 @@ pub mod DraftLemmas
 pub mod LineTaking
 pub mod SoundLemmas
 pub mod DocumentLemmas
+pub mod ReasonDecisions
+pub mod MeaningLemmas
 pub mod InputLemmas
 pub mod CommandLemmas
 pub mod CompletedLemmas

@@ -4,7 +4,7 @@ use Rattle.std.specs.List.{AllByRecursion, AllZip, flat_map}
 use Rattle.std.proofs.lemmas.List.{append-nil}
 use Rattle.std.proofs.lemmas.Bool.{cases_order}
 use Rattle.std.proofs.lemmas.Grind.{fold-append, flat_map-append}
-use Rattle.std.proofs.lemmas.List.Elements.{All-cons, All-nil, Contains-append_left, Contains-append_right}
+use Rattle.std.proofs.lemmas.List.Elements.{All-cons, All-nil, Contains-append_right}
 use Rattle.dl_base.specs.Ontology.{Terminology}
 use Rattle.dl_base.specs.Axiom.{Statement, with_name, with_names, NumbersHead, NumbersInclusion, Passes, IsExtended}
 use Rattle.dl_base.specs.declared.concept.Basic.TheVariants as basic

@@ -37,7 +37,7 @@ at_rank reason.TooManyFacts = refl
 rank_once : (why other : Reason) → rank_of why ≡ rank_of other → why ≡ other
 rank_once why other same = sym (at_rank why) ∙ ap reason_at same ∙ at_rank other
 
-few_ranks : (why : Reason) → rank_of why < 9
+pub few_ranks : (why : Reason) → rank_of why < 9
 few_ranks reason.TooLong = omega arith
 few_ranks reason.Misplaced = omega arith
 few_ranks reason.NotBuilt = omega arith
@@ -53,11 +53,11 @@ abbrev pub NoneBelow : (Reason → Type 0) → ℕ → Type 0
 NoneBelow H n = (other : Reason) → rank_of other < n → H other → ⊥
 
 module _ (H : Reason → Type 0) where
-  none_first : NoneBelow H 0
+  pub none_first : NoneBelow H 0
   none_first other below h = omega (arith, below)
 
   -- nor does the next one
-  none_next : (why : Reason) → NoneBelow H (rank_of why) → (H why → ⊥) → NoneBelow H (rank_of why + 1)
+  pub none_next : (why : Reason) → NoneBelow H (rank_of why) → (H why → ⊥) → NoneBelow H (rank_of why + 1)
   none_next why none not other below h = elim (cases_order (rank_of other) (rank_of why)) [
     | inl same ↦ not (subst H (rank_once other why same) h)
     | inr either ↦ elim either [ inl less ↦ none other less h | inr more ↦ omega (arith, below, more) ]

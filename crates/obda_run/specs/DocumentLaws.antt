@@ -3,7 +3,7 @@ use Rattle.std.specs.Prelude.{◌≡◌, ℕ, List}
 use Rattle.dl_base.specs.Ontology.{Terminology}
 use Rattle.dl_base.specs.Query.{Question}
 use Rattle.dl_base.specs.declared.row.NamedRow.{NamedRow}
-use Rattle.obda_run.specs.Document.{Asks, IsDocument, Refused}
+use Rattle.obda_run.specs.Document.{Asks, IsDocument, Meaning, Refused}
 
 -- a document is refused at one line, with one code
 abbrev pub IsRefusedOnce : Type 0
@@ -13,3 +13,7 @@ IsRefusedOnce = (bytes : List ℕ) (code n code' n' : ℕ) → IsDocument bytes 
 abbrev pub IsRefusedOrAsks : Type 0
 IsRefusedOrAsks = (bytes : List ℕ) (code n : ℕ) (o : Terminology) (rows : List NamedRow) (q : Question)
     → IsDocument bytes (Refused code n) → IsDocument bytes (Asks o rows q) → ⊥
+
+-- each input has a meaning
+abbrev pub HasAMeaning : Type 0
+HasAMeaning = (bytes : List ℕ) → (m : Meaning) × IsDocument bytes m

@@ -67,7 +67,7 @@ Blank c = IsTrue (is_blank c)
 
 -- ---- where blanks end
 
-blank_not : (c : ℕ) → is_blank c ≡ true → is_blank c ≡ false → ⊥
+pub blank_not : (c : ℕ) → is_blank c ≡ true → is_blank c ≡ false → ⊥
 blank_not c is not = true≢false (sym is ∙ not)
 
 no_last : (text : List ℕ) (x : ℕ) (xs : List ℕ) → AreBlank (x ∷ xs) → EndsUnblank (text ++ x ∷ xs) → ⊥
@@ -142,7 +142,7 @@ blank_before n [] below is behind = absurd (omega (arith, below))
 blank_before zero (c ∷ text) below is behind = (is, behind)
 blank_before (suc n) (c ∷ text) below is behind = blank_before n text (omega (arith, below)) is behind
 
-nothing_cut : {X : Type 0} (front : List X) (x : X) → [] ≡ front ++ x ∷ [] → ⊥
+pub nothing_cut : {X : Type 0} (front : List X) (x : X) → [] ≡ front ++ x ∷ [] → ⊥
 nothing_cut [] x e = absurd cc
 nothing_cut (y ∷ front) x e = absurd cc
 

@@ -40,7 +40,7 @@ nat_eq_same x y is = grind (arith, nat_tests)
 exact_by : {V : Type 0} (g : Grammar V) (F : V → List ℕ → Type 0) (text : List ℕ) (r s : Outcome V) → IsExact g F text r → r ≡ s → IsExact g F text s
 exact_by g F text r s exact same = subst (IsExact g F text) same exact
 
-first_of : (core behind : List ℕ) → BeginsUnblank (core ++ behind) → BeginsUnblank core
+pub first_of : (core behind : List ℕ) → BeginsUnblank (core ++ behind) → BeginsUnblank core
 first_of core behind first c more e = first c (more ++ behind) (ap (λ l. l ++ behind) e)
 
 -- blanks that are read and what stands before the last blanks
