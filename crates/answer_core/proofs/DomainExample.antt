@@ -19,14 +19,14 @@ use Rattle.dl_base.specs.declared.query.Term.TheVariants as term
 use Rattle.dl_base.specs.declared.query.Atom.{Atom}
 use Rattle.dl_base.specs.declared.query.Atom.TheVariants as atom
 use Rattle.dl_base.proofs.DerivationLemmas.{least, IsClosed}
-use Rattle.dl_base.proofs.Examples.{only_item, first_item}
-use Rattle.answer_core.specs.AnswerLaws.{AIsInA, HasNoSuccessorHead, domain, a_has_b, who_is_in_a}
+use Rattle.dl_base.proofs.Examples.{only_item, first_item, only_variable, x_is_variable}
+use Rattle.answer_core.specs.AnswerLaws.{AIsInA, HasNoSuccessorHead, domain_of_r, a_has_b, who_is_in_a}
 use Rattle.answer_core.proofs.KeyLemmas.{keys_are_certain}
 
 inclusion : Inclusion
 inclusion = record { body = basic.Exists (record { name = 0; inverse = false }) ∷ []; head = head.Basic (basic.Concept 0) }
 
-no_head : HasNoSuccessorHead domain
+no_head : HasNoSuccessorHead domain_of_r
 unfolding inclusion
 no_head i there r is =
     let e = only_item inclusion i there in
@@ -38,7 +38,7 @@ abbrev AtB : Basic → Type 0
 AtB (basic.Concept c) = ⊥
 AtB (basic.Exists r) = r.inverse ≡ true
 
-at_b_closed : IsClosed domain.inclusions AtB
+at_b_closed : IsClosed domain_of_r.inclusions AtB
 unfolding inclusion
 at_b_closed i b there is body =
     let e = only_item inclusion i there in
@@ -53,7 +53,7 @@ abbrev letter : List ℕ → ℕ
 letter [] = 0
 letter (c ∷ cs) = c
 
-at_b_held : (b : Basic) → Held domain a_has_b (codes "b") b → AtB b
+at_b_held : (b : Basic) → Held domain_of_r a_has_b (codes "b") b → AtB b
 at_b_held (basic.Concept c) h = absurd (let e = only_item _ (row.Concept h.name (codes "b")) h.there in cc)
 at_b_held (basic.Exists r) (x, h) = by r.inverse h.there
   where
@@ -64,26 +64,26 @@ at_b_held (basic.Exists r) (x, h) = by r.inverse h.there
         let letters : letter (codes "b") ≡ letter (codes "a") = ap (λ (s : NamedRow). letter (from_of s)) e in
         absurd (omega (arith, letters))
 
-not_b : (c : ℕ) → DerivedAt domain a_has_b (Named (codes "b")) (basic.Concept c) → ⊥
-not_b c d = least domain.inclusions (Held domain a_has_b (codes "b")) AtB at_b_closed at_b_held d
+not_b : (c : ℕ) → DerivedAt domain_of_r a_has_b (Named (codes "b")) (basic.Concept c) → ⊥
+not_b c d = least domain_of_r.inclusions (Held domain_of_r a_has_b (codes "b")) AtB at_b_closed at_b_held d
 
-a_derived : DerivedAt domain a_has_b (Named (codes "a")) (basic.Concept 0)
+a_derived : DerivedAt domain_of_r a_has_b (Named (codes "a")) (basic.Concept 0)
 unfolding inclusion
 a_derived = node inclusion (first_item inclusion []) refl (each (leaf (codes "b", record { name = codes "r"; named = refl; there = first_item _ [] })) none)
 
 a_individual : IsIndividual a_has_b (codes "a")
 a_individual = (row.Role (codes "r") (codes "a") (codes "b"), first_item _ [], inl refl)
 
-a_is_certain : IsCertain domain a_has_b who_is_in_a (codes "a" ∷ [])
+a_is_certain : IsCertain domain_of_r a_has_b who_is_in_a (codes "a" ∷ [])
 a_is_certain = record {
   place = λ t. Named (codes "a");
   exist = λ t there. a_individual;
   answers = refl;
   names = λ a there. (let e = only_item (term.Var (codes "x")) (term.Named a) there in cc);
-  atoms = λ t there. subst (λ (u : Atom). Holds domain a_has_b (λ t. Named (codes "a")) u) (sym (only_item _ t there)) (0, refl, a_derived);
+  atoms = λ t there. subst (λ (u : Atom). Holds domain_of_r a_has_b (λ t. Named (codes "a")) u) (sym (only_item _ t there)) (0, refl, a_derived);
 }
 
-one_name : (e : Element) (key : List (List ℕ)) → e ∷ [] ≡ map Named key → Holds domain a_has_b (λ t. e) (atom.Concept (codes "A") (term.Var (codes "x"))) → All (IsIndividual a_has_b) key → key ≡ codes "a" ∷ []
+one_name : (e : Element) (key : List (List ℕ)) → e ∷ [] ≡ map Named key → Holds domain_of_r a_has_b (λ t. e) (atom.Concept (codes "A") (term.Var (codes "x"))) → All (IsIndividual a_has_b) key → key ≡ codes "a" ∷ []
 one_name e [] same holds all = absurd cc
 one_name e (n ∷ m ∷ key) same holds all = absurd cc
 one_name e (n ∷ []) same holds all = by (all 0 n (omega arith))
@@ -94,18 +94,18 @@ one_name e (n ∷ []) same holds all = by (all 0 n (omega arith))
     by : IsIndividual a_has_b n → n ∷ [] ≡ codes "a" ∷ []
     by (r, there, names) = elim (subst (Names n) (only_item _ r there) names) [
       | inl a ↦ ap (λ (x : List ℕ). x ∷ []) a
-      | inr b ↦ absurd (not_b holds.0 (subst (λ (x : List ℕ). DerivedAt domain a_has_b (Named x) (basic.Concept holds.0)) b (subst (λ (x : Element). DerivedAt domain a_has_b x (basic.Concept holds.0)) is holds.2)))
+      | inr b ↦ absurd (not_b holds.0 (subst (λ (x : List ℕ). DerivedAt domain_of_r a_has_b (Named x) (basic.Concept holds.0)) b (subst (λ (x : Element). DerivedAt domain_of_r a_has_b x (basic.Concept holds.0)) is holds.2)))
     ]
 
 one_key : IsStrictlySortedBy key_cmp ((codes "a" ∷ []) ∷ [])
 unfolding IsStrictlySortedBy
 one_key = (tt, tt)
 
-answered : AreAnswers domain a_has_b who_is_in_a ((codes "a" ∷ []) ∷ [])
+answered : AreAnswers domain_of_r a_has_b who_is_in_a ((codes "a" ∷ []) ∷ [])
 answered = record {
   rising = one_key;
   members = λ key. (
-    λ there. subst (λ (k : List (List ℕ)). All (IsIndividual a_has_b) k × IsCertain domain a_has_b who_is_in_a k) (sym (only_item _ key there)) (each_individual, a_is_certain),
+    λ there. subst (λ (k : List (List ℕ)). All (IsIndividual a_has_b) k × IsCertain domain_of_r a_has_b who_is_in_a k) (sym (only_item _ key there)) (each_individual, a_is_certain),
     λ both. subst (Contains ((codes "a" ∷ []) ∷ [])) (sym (one_name (both.1.place (term.Var (codes "x"))) key both.1.answers (both.1.atoms _ (first_item _ [])) both.0)) (first_item _ []),
   );
 }
@@ -120,6 +120,7 @@ is_query = record {
   answers = omega arith;
   distinct = record { few = x ∷ []; count = omega arith; each = All-cons (Contains (x ∷ [])) x [] (first_item x []) (All-nil (Contains (x ∷ []))) };
   safe = All-cons (λ v. Contains (terms who_is_in_a) (term.Var v)) (codes "x") [] (first_item x []) (All-nil (λ v. Contains (terms who_is_in_a) (term.Var v)));
+  variables = only_variable (codes "x") x_is_variable;
 }
   where
     x : Term
@@ -131,8 +132,8 @@ a_is_in_a = (
   λ names generation table completed. record {
     rising = answered.rising;
     members = λ key. (
-      λ c. (keys_are_certain domain a_has_b names generation table who_is_in_a key is_query no_head completed).0 ((answered.members key).0 c),
-      λ k. (answered.members key).1 ((keys_are_certain domain a_has_b names generation table who_is_in_a key is_query no_head completed).1 k),
+      λ c. (keys_are_certain domain_of_r a_has_b names generation table who_is_in_a key is_query no_head completed).0 ((answered.members key).0 c),
+      λ k. (answered.members key).1 ((keys_are_certain domain_of_r a_has_b names generation table who_is_in_a key is_query no_head completed).1 k),
     );
   },
 )

@@ -16,17 +16,17 @@ use Rattle.dl_base.specs.declared.element.Elem.TheVariants as elem
 use Rattle.dl_base.specs.declared.query.Term.{Term}
 use Rattle.dl_base.specs.declared.query.Term.TheVariants as term
 use Rattle.query_shape.specs.Shape.{Layout, IsShapeMatch}
-use Rattle.query_shape.proofs.PlaceLemmas.{one_place}
-use Rattle.query_shape.proofs.NumberingLemmas.{occur_distinct}
+use Rattle.dl_base.proofs.PlaceLemmas.{one_place, some_same, member_at}
+use Rattle.query_shape.proofs.NumberingLemmas.{occur_distinct, occur_from}
 use Rattle.query_shape.proofs.MatchLemmas.{same_matches, each_placing}
 use Rattle.join_ops.specs.Joins.{IsFixed}
 use Rattle.answer_core.specs.Keys.{IsNumbered, IsKeyOf, AreKeys}
 use Rattle.answer_core.specs.AnswerLaws.{HasNoSuccessorHead}
 use Rattle.answer_core.specs.Binding.{BoundQuery, IsBoundTo, IsFixedTerm}
-use Rattle.answer_core.specs.Found.{Reads, IsFoundKey, Spells, AreSpelled}
+use Rattle.answer_core.specs.Found.{AllStand, IsFoundKey, Spells, AreSpelled}
 use Rattle.answer_core.proofs.KeyLemmas.{keys_are_certain}
-use Rattle.answer_core.proofs.ListLemmas.{some_same, at_place, place_has, zip_at, zip_back}
-use Rattle.answer_core.proofs.TermLemmas.{occur_each, occur_only}
+use Rattle.answer_core.proofs.ListLemmas.{at_place, zip_at, zip_back}
+use Rattle.answer_core.proofs.TermLemmas.{occur_each}
 
 -- the image of a numbered term is its place
 map_at : (place : Term → Elem) (ts : List Term) (k : ℕ) (t : Term) → slice_get ts k ≡ Some t → slice_get (map place ts) k ≡ Some (place t)
@@ -75,13 +75,13 @@ module _ (o : Terminology) (table : List TableRow) (names : List (List ℕ)) (q 
     fixed_of_key i n at =
         let found = zip_back (IsFixedTerm names) b.shape.terms fixed i (Some n) fixed_are at in
         let name = fixed_name names found.0 n found.2 in
-        let there : Contains (terms q) (term.Named name.0) = occur_only bound.shape.terms_are (term.Named name.0) (place_has b.shape.terms i (term.Named name.0) (found.1 ∙ ap Some name.1)) in
+        let there : Contains (terms q) (term.Named name.0) = occur_from bound.shape.terms_are (term.Named name.0) (member_at b.shape.terms i (term.Named name.0) (found.1 ∙ ap Some name.1)) in
         let number = numbered names (k.place (term.Named name.0)) name.0 (k.names_are name.0 there) in
         let one : number.number ≡ n = one_place names number.number n name.0 distinct number.at name.2 in
         map_at k.place b.shape.terms i found.0 found.1 ∙ ap Some (ap k.place name.1 ∙ (number.is ∙ ap elem.Named one))
 
     numbers_of_key : (vs : List (List ℕ)) (places : List ℕ) (key_names : List (List ℕ)) → AllZip (λ v n. slice_get b.shape.terms n ≡ Some (term.Var v)) vs places
-        → AllZip (λ v a. IsNumbered names (k.place (term.Var v)) a) vs key_names → (numbers : List ℕ) × Reads images places (length names) numbers × Spells names numbers key_names
+        → AllZip (λ v a. IsNumbered names (k.place (term.Var v)) a) vs key_names → (numbers : List ℕ) × AllStand images places (length names) numbers × Spells names numbers key_names
     unfolding images
     numbers_of_key [] [] [] p s = ([], tt, tt)
     numbers_of_key [] (n ∷ ns) rest p s = absurd p
@@ -110,7 +110,7 @@ module _ (o : Terminology) (table : List TableRow) (names : List (List ℕ)) (q 
     is_numbered e n a is at = subst (λ (f : Elem). IsNumbered names f a) (sym is) at
 
     answers_of : (vs : List (List ℕ)) (places ns : List ℕ) (key_names : List (List ℕ)) → AllZip (λ v n. slice_get b.shape.terms n ≡ Some (term.Var v)) vs places
-        → Reads found.images places (length names) ns → Spells names ns key_names → AllZip (λ v a. IsNumbered names (placing.0 (term.Var v)) a) vs key_names
+        → AllStand found.images places (length names) ns → Spells names ns key_names → AllZip (λ v a. IsNumbered names (placing.0 (term.Var v)) a) vs key_names
     answers_of [] [] [] [] p r s = tt
     answers_of [] [] [] (a ∷ rest) p r s = absurd s
     answers_of [] [] (m ∷ ms) rest p r s = absurd r
@@ -160,11 +160,11 @@ pub no_keys : (o : Terminology) (table : List TableRow) (names : List (List ℕ)
     → (((a : List ℕ) → Contains b.shape.terms (term.Named a) → Contains names a) → ⊥) → AreKeys o table names q []
 no_keys o table names q b bound unknown = record {
   rising = none_rising key_cmp;
-  members = λ key. (λ c. absurd (omega arith), λ k. absurd (unknown (λ a there. by a (numbered names (k.place (term.Named a)) a (k.names_are a (occur_only bound.shape.terms_are (term.Named a) there))))));
+  members = λ key. (λ c. absurd (omega arith), λ k. absurd (unknown (λ a there. by a (numbered names (k.place (term.Named a)) a (k.names_are a (occur_from bound.shape.terms_are (term.Named a) there))))));
 }
   where
     by : (a : List ℕ) {e : Elem} → Numbered names e a → Contains names a
-    by a n = place_has names n.number a n.at
+    by a n = member_at names n.number a n.at
 
 -- the keys are the answers
 pub are_answers : (o : Terminology) (rows : List NamedRow) (names : List (List ℕ)) (generation : Role → ℕ) (table : List TableRow) (q : Question) (keys : List (List (List ℕ)))
@@ -183,7 +183,7 @@ answers_result o rows names generation table q (Ok keys) query heads completed a
 answers_result o rows names generation table q (Err e) query heads completed are = tt
 
 -- what is found are numbers of names
-reads_within : (es : List Elem) (count : ℕ) (places numbers : List ℕ) → Reads es places count numbers → All (λ n. n < count) numbers
+reads_within : (es : List Elem) (count : ℕ) (places numbers : List ℕ) → AllStand es places count numbers → All (λ n. n < count) numbers
 reads_within es count [] [] r = All-nil (λ n. n < count)
 reads_within es count [] (n ∷ ns) r = absurd r
 reads_within es count (p ∷ ps) [] r = absurd r

@@ -1,13 +1,13 @@
 -- The certain keys are the keys of matches in the completed table.
 use Rattle.std.proofs.Common.{◌≡◌, ℕ, suc, ◌⊎◌, inl, inr, false, List, [], ◌∷◌, map, Contains, All, slice_get, Some, refl, sym, subst, ap, arith}
-use Rattle.std.specs.List.{flat_map, AllZip}
+use Rattle.std.specs.List.{AllZip}
 use Rattle.std.specs.declared.cmp.Ordering.{Ordering}
 use Rattle.std.specs.declared.cmp.Ordering.TheVariants.{Less, Equal, Greater}
 use Rattle.std.specs.Ordering.{match_ordering}
 use Rattle.std.specs.Prelude.{slice_index_or}
 use Rattle.std.proofs.lemmas.Cmp.{tied_itself}
 use Rattle.std.proofs.lemmas.Option.{get_or_from_slice_get}
-use Rattle.std.proofs.lemmas.List.Elements.{All-cons, All-nil, All-head, All-tail, Contains-append_left, Contains-append_right, Contains-append_cases}
+use Rattle.std.proofs.lemmas.List.Elements.{All-cons, All-nil, All-head, All-tail}
 use Rattle.dl_base.specs.Ontology.{Terminology}
 use Rattle.dl_base.specs.Query.{Question, IsQuery, terms, terms_of}
 use Rattle.dl_base.specs.Rows.{HasRow, IsIndividual, name_cmp}
@@ -26,26 +26,12 @@ use Rattle.dl_base.specs.declared.query.Term.TheVariants as term
 use Rattle.dl_base.specs.declared.query.Atom.{Atom}
 use Rattle.dl_base.specs.declared.query.Atom.TheVariants as atom
 use Rattle.dl_base.proofs.RisingLemmas.{contains_cases, contains_first, contains_later}
+use Rattle.dl_base.proofs.PlaceLemmas.{flat_there, flat_part}
 use Rattle.dl_base.proofs.RowLemmas.{name_total, name_same}
 use Rattle.answer_core.specs.Keys.{IsNumbered, IsKeyOf}
 use Rattle.answer_core.specs.AnswerLaws.{HasNoSuccessorHead, KeysAreCertain}
 use Rattle.answer_core.proofs.Successors.{not_live, node_points_not}
 use Rattle.answer_core.proofs.Sitting.{sits, Sits, sitting, derived_on, edge_is_row, ends_of_row}
-
--- what a part has is in the whole, and what is in the whole some part has
-pub flat_there : {X Y : Type 0} (f : X → List Y) (xs : List X) (x : X) (y : Y) → Contains xs x → Contains (f x) y → Contains (flat_map f xs) y
-flat_there f [] x y c d = absurd (omega arith)
-flat_there f (z ∷ zs) x y c d = elim (contains_cases z zs x c) [
-  | inl e ↦ Contains-append_left (f z) (flat_map f zs) y (subst (λ w. Contains (f w) y) e d)
-  | inr rest ↦ Contains-append_right (f z) (flat_map f zs) y (flat_there f zs x y rest d)
-]
-
-pub flat_part : {X Y : Type 0} (f : X → List Y) (xs : List X) (y : Y) → Contains (flat_map f xs) y → (x : X) × Contains xs x × Contains (f x) y
-flat_part f [] y c = absurd (omega arith)
-flat_part f (z ∷ zs) y c = elim (Contains-append_cases (f z) (flat_map f zs) y c) [
-  | inl d ↦ (z, contains_first z zs, d)
-  | inr d ↦ (let p = flat_part f zs y d in (p.0, contains_later z zs p.0 p.1, p.2))
-]
 
 -- the place of a name in a list of names
 abbrev pub place_in : List (List ℕ) → List ℕ → ℕ

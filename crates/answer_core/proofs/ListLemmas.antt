@@ -2,17 +2,11 @@
 use Rattle.std.proofs.Common.{◌≡◌, ℕ, zero, suc, ◌+◌, ◌<◌, List, [], ◌∷◌, ◌++◌, map, length, take, Contains, slice_get, Some, refl, sym, ◌∙◌, ap, subst, arith, add-one}
 use Rattle.std.specs.List.{AllZip}
 use Rattle.std.proofs.lemmas.List.{append-nil}
-use Rattle.std.proofs.lemmas.Option.{slice_get-get_or, slice_get_within, get_or_from_slice_get}
+use Rattle.dl_base.proofs.PlaceLemmas.{place_of, some_same}
 
 -- an item is at some place
 pub at_place : {X : Type 0} (xs : List X) (x : X) → Contains xs x → (k : ℕ) × (k < length xs) × (slice_get xs k ≡ Some x)
-at_place xs x (k, below, at) = (k, below, slice_get-get_or xs k x below ∙ ap Some at)
-
-pub place_has : {X : Type 0} (xs : List X) (k : ℕ) (x : X) → slice_get xs k ≡ Some x → Contains xs x
-place_has xs k x at = (k, slice_get_within xs k x at, get_or_from_slice_get xs k x x at)
-
-pub some_same : {X : Type 0} {x y : X} → Some x ≡ Some y → x ≡ y
-some_same e = cc
+at_place xs x c = (c.0, c.1, place_of xs x c)
 
 -- one more of both
 pub zip_next : {A B : Type 0} (R : A → B → Type 0) (xs : List A) (ys : List B) (i : ℕ) (x : A) (y : B)
@@ -42,13 +36,6 @@ zip_back R [] (v ∷ vs) k y zip at = absurd zip
 zip_back R (z ∷ zs) [] k y zip at = absurd zip
 zip_back R (z ∷ zs) (v ∷ vs) zero y zip at = (z, refl, subst (λ (w : _). R z w) (some_same at) zip.0)
 zip_back R (z ∷ zs) (v ∷ vs) (suc k) y zip at = zip_back R zs vs k y zip.1 at
-
--- as many on both sides
-pub zip_long : {A B : Type 0} (R : A → B → Type 0) (xs : List A) (ys : List B) → AllZip R xs ys → length xs ≡ length ys
-zip_long R [] [] zip = refl
-zip_long R [] (y ∷ ys) zip = absurd zip
-zip_long R (x ∷ xs) [] zip = absurd zip
-zip_long R (x ∷ xs) (y ∷ ys) zip = ap suc (zip_long R xs ys zip.1)
 
 -- from each place
 pub zip_each : {A B : Type 0} (R : A → B → Type 0) (xs : List A) (ys : List B) → length xs ≡ length ys

@@ -8,7 +8,7 @@ use Rattle.dl_base.proofs.RisingLemmas.{contains_first}
 use Rattle.query_shape.specs.Shape.{IsShapeMatch, IsLayout}
 use Rattle.join_ops.specs.Joins.{Search, AreLeft, AreMatches, IsNext}
 use Rattle.answer_core.specs.Binding.{BoundQuery}
-use Rattle.answer_core.specs.Found.{Reads, IsFoundKey}
+use Rattle.answer_core.specs.Found.{AllStand, IsFoundKey}
 use Rattle.answer_core.proofs.RankLemmas.{rank, tuples, elements, rank_falls, match_in}
 
 -- the keys of the matches gone through, and the matches that are left
@@ -19,7 +19,7 @@ pub record FoundSoFar (table : List TableRow) (b : BoundQuery) (fixed : List (Op
   pub are : AreMatches table b.shape fixed all
   pub whole : done ++ left ≡ all
   pub goes_on : AreLeft table search left
-  pub members : (numbers : List ℕ) → Contains found numbers ↔ ((images : List Elem) × Contains done images × Reads images b.answers count numbers)
+  pub members : (numbers : List ℕ) → Contains found numbers ↔ ((images : List Elem) × Contains done images × AllStand images b.answers count numbers)
 
 module _ (table : List TableRow) (b : BoundQuery) (fixed : List (Option ℕ)) (count : ℕ) where
   pub found_none : (search : Search) (found : List (List ℕ)) → found ≡ [] → (left : List (List Elem)) × AreLeft table search left × AreMatches table b.shape fixed left
@@ -50,7 +50,7 @@ module _ (table : List TableRow) (b : BoundQuery) (fixed : List (Option ℕ)) (c
     pub next_places : All (λ n. n < length b.shape.terms) b.answers → All (λ p. p < length next.images) b.answers
     next_places within = subst (λ (n : ℕ). All (λ p. p < n) b.answers) (sym next_match.count) within
 
-    pub found_more : (more : List (List ℕ)) → ((numbers : List ℕ) → Contains more numbers ↔ (Contains found numbers ⊎ Reads next.images b.answers count numbers))
+    pub found_more : (more : List (List ℕ)) → ((numbers : List ℕ) → Contains more numbers ↔ (Contains found numbers ⊎ AllStand next.images b.answers count numbers))
         → FoundSoFar table b fixed count new more
     found_more more adds = record {
       all = so_far.all;
@@ -62,16 +62,16 @@ module _ (table : List TableRow) (b : BoundQuery) (fixed : List (Option ℕ)) (c
       members = λ numbers. (only numbers, each numbers);
     }
       where
-        only : (numbers : List ℕ) → Contains more numbers → (images : List Elem) × Contains (so_far.done ++ next.images ∷ []) images × Reads images b.answers count numbers
+        only : (numbers : List ℕ) → Contains more numbers → (images : List Elem) × Contains (so_far.done ++ next.images ∷ []) images × AllStand images b.answers count numbers
         only numbers c = elim ((adds numbers).0 c) [
           | inl d ↦ (let old = (so_far.members numbers).0 d in (old.0, Contains-append_left so_far.done (next.images ∷ []) old.0 old.1, old.2))
           | inr r ↦ (next.images, Contains-push so_far.done next.images, r)
         ]
 
-        each : (numbers : List ℕ) → (images : List Elem) × Contains (so_far.done ++ next.images ∷ []) images × Reads images b.answers count numbers → Contains more numbers
+        each : (numbers : List ℕ) → (images : List Elem) × Contains (so_far.done ++ next.images ∷ []) images × AllStand images b.answers count numbers → Contains more numbers
         each numbers (images, c, r) = elim (Contains-push_cases so_far.done next.images images c) [
           | inl d ↦ (adds numbers).1 (inl ((so_far.members numbers).1 (images, d, r)))
-          | inr e ↦ (adds numbers).1 (inr (subst (λ (ms : List Elem). Reads ms b.answers count numbers) (sym e) r))
+          | inr e ↦ (adds numbers).1 (inr (subst (λ (ms : List Elem). AllStand ms b.answers count numbers) (sym e) r))
         ]
 
   -- at the end

@@ -16,8 +16,8 @@ use Rattle.dl_base.proofs.RisingLemmas.{contains_cases, contains_first, contains
 use Rattle.query_shape.specs.Shape.{Layout, IsLayout, IsShapeMatch, HoldsAt, IsTermOf}
 use Rattle.query_shape.specs.declared.layout.ShapeAtom.{ShapeAtom}
 use Rattle.query_shape.specs.declared.layout.ShapeAtom.TheVariants as shape
-use Rattle.join_ops.specs.Joins.{Place, Start, Behind, End, IsBehind}
-use Rattle.answer_core.proofs.KeyLemmas.{flat_there}
+use Rattle.join_ops.specs.Joins.{SearchPlace, Start, Behind, End, IsBehind}
+use Rattle.dl_base.proofs.PlaceLemmas.{flat_there, map_contains}
 
 -- the elements of a row, and of all rows
 abbrev row_elements : TableRow → List Elem
@@ -32,20 +32,13 @@ abbrev pub tuples : List Elem → List Term → List (List Elem)
 tuples es [] = [] ∷ []
 tuples es (t ∷ ts) = flat_map (λ e. map (λ xs. e ∷ xs) (tuples es ts)) es
 
-map_there : {X Y : Type 0} (f : X → Y) (xs : List X) (x : X) → Contains xs x → Contains (map f xs) (f x)
-map_there f [] x c = absurd (omega (arith, c.1))
-map_there f (y ∷ ys) x c = elim (contains_cases y ys x c) [
-  | inl e ↦ subst (λ z. Contains (f y ∷ map f ys) (f z)) (sym e) (contains_first (f y) (map f ys))
-  | inr d ↦ contains_later (f y) (map f ys) (f x) (map_there f ys x d)
-]
-
 in_tuples : (es : List Elem) (ts : List Term) (xs : List Elem) → length xs ≡ length ts → AllByRecursion (Contains es) xs → Contains (tuples es ts) xs
 in_tuples es [] [] long all = contains_first [] []
 in_tuples es [] (x ∷ xs) long all = absurd (omega (arith, long))
 in_tuples es (t ∷ ts) [] long all = absurd (omega (arith, long))
 in_tuples es (t ∷ ts) (x ∷ xs) long all =
     flat_there (λ e. map (λ ys. e ∷ ys) (tuples es ts)) es x (x ∷ xs) all.0
-    (map_there (λ ys. x ∷ ys) (tuples es ts) xs (in_tuples es ts xs (omega (arith, long)) all.1))
+    (map_contains (λ ys. x ∷ ys) (tuples es ts) xs (in_tuples es ts xs (omega (arith, long)) all.1))
 
 turned_has : (table : List TableRow) (turned : Bool) (p : ℕ) (e f : Elem) → Contains table (turned_row turned p e f) → Contains (elements table) e × Contains (elements table) f
 turned_has table false p e f c = (flat_there row_elements table (RoleRow p e f) e c (contains_first e (f ∷ [])), flat_there row_elements table (RoleRow p e f) f c (contains_later e (f ∷ []) f (contains_first f [])))
@@ -112,13 +105,13 @@ module _ (p q : List Elem → Bool) (into : (x : List Elem) → q x ≡ true →
       by rest (inr d) = later (p x) (q x) (into x) (rest d)
 
 -- whether the images are behind the place
-abbrev pub comes_behind : Place → List Elem → Bool
+abbrev pub comes_behind : SearchPlace → List Elem → Bool
 comes_behind Start images = true
 comes_behind (Behind last) images = is_lt (slice_cmp elem_cmp last images)
 comes_behind End images = false
 
 -- how many of these lists are behind the place
-abbrev pub rank : List (List Elem) → Place → ℕ
+abbrev pub rank : List (List Elem) → SearchPlace → ℕ
 rank all place = passing (comes_behind place) all
 
 less_of : (d : Ordering) → is_lt d ≡ true → d ≡ Less
@@ -126,19 +119,19 @@ less_of Less e = refl
 less_of Equal e = absurd cc
 less_of Greater e = absurd cc
 
-behind_is : (place : Place) (images : List Elem) → IsBehind place images → comes_behind place images ≡ true
+behind_is : (place : SearchPlace) (images : List Elem) → IsBehind place images → comes_behind place images ≡ true
 behind_is Start images h = refl
 behind_is (Behind last) images h = ap is_lt h
 behind_is End images h = absurd h
 
-behind_more : (place : Place) (images others : List Elem) → IsBehind place images → comes_behind (Behind images) others ≡ true → comes_behind place others ≡ true
+behind_more : (place : SearchPlace) (images others : List Elem) → IsBehind place images → comes_behind (Behind images) others ≡ true → comes_behind place others ≡ true
 behind_more Start images others h more = refl
 behind_more (Behind last) images others h more = ap is_lt ((lists_total elem_total).trans last images others h (less_of (slice_cmp elem_cmp images others) more))
 behind_more End images others h more = absurd h
 
 -- behind the next match there are fewer
-pub rank_falls : (all : List (List Elem)) (place new : Place) (images : List Elem) → IsBehind place images → new ≡ Behind images → Contains all images → rank all new < rank all place
+pub rank_falls : (all : List (List Elem)) (place new : SearchPlace) (images : List Elem) → IsBehind place images → new ≡ Behind images → Contains all images → rank all new < rank all place
 rank_falls all place new images behind stands there =
-    subst (λ (at : Place). rank all at < rank all place) (sym stands)
+    subst (λ (at : SearchPlace). rank all at < rank all place) (sym stands)
     (passing_fewer (comes_behind place) (comes_behind (Behind images)) (λ others. behind_more place images others behind) all images there (behind_is place images behind)
     (ap is_lt (tied_itself (lists_total elem_total) images)))

@@ -3,8 +3,9 @@ use Rattle.std.proofs.Common.{◌≡◌, ◌↔◌, ℕ, ◌⊎◌, inl, inr, �
 use Rattle.std.proofs.lemmas.Option.{slice_get-get_or, slice_get_within, get_or_from_slice_get}
 use Rattle.dl_base.specs.declared.element.Elem.{Elem}
 use Rattle.dl_base.specs.declared.element.Elem.TheVariants as elem
-use Rattle.answer_core.specs.Found.{IsOf, Stands, Reads, AddsKey}
-use Rattle.answer_core.proofs.ListLemmas.{some_same, zip_each, zip_at}
+use Rattle.answer_core.specs.Found.{IsOf, Stands, AllStand, AddsKey}
+use Rattle.answer_core.proofs.ListLemmas.{zip_each, zip_at}
+use Rattle.dl_base.proofs.PlaceLemmas.{some_same}
 
 -- the image at a place
 pub stands_here : (images : List Elem) (count p n : ℕ) (d : Elem) → p < length images → IsOf count (get_or images p d) n → Stands images count p n
@@ -12,7 +13,7 @@ stands_here images count p n d below is = (slice_get-get_or images p d below ∙
 
 -- each place that was gone through
 pub reads_all : (images : List Elem) (count : ℕ) (places key : List ℕ) (i : ℕ) → length key ≡ length places → length places ≤ i
-    → ((k : ℕ) → k < i → Stands images count (get_or places k 0) (get_or key k 0)) → Reads images places count key
+    → ((k : ℕ) → k < i → Stands images count (get_or places k 0) (get_or key k 0)) → AllStand images places count key
 reads_all images count places key i long all stands = zip_each (Stands images count) places key (sym long) each
   where
     each : (k p n : ℕ) → slice_get places k ≡ Some p → slice_get key k ≡ Some n → Stands images count p n
@@ -24,7 +25,7 @@ reads_all images count places key i long all stands = zip_each (Stands images co
 
 -- where a place has no individual, nothing is read
 pub reads_not : (images : List Elem) (count : ℕ) (places : List ℕ) (i : ℕ) (d : Elem) → i < length places → ((n : ℕ) → IsOf count (get_or images (get_or places i 0) d) n → ⊥)
-    → (numbers : List ℕ) → Reads images places count numbers → ⊥
+    → (numbers : List ℕ) → AllStand images places count numbers → ⊥
 reads_not images count places i d below none numbers reads =
     let found = zip_at (Stands images count) places numbers i (get_or places i 0) reads (slice_get-get_or places i 0 below) in
     none found.0 (get_or_from_slice_get images (get_or places i 0) (elem.Named found.0) d found.2.0, found.2.1)
@@ -33,7 +34,7 @@ named_same : {n m : ℕ} → elem.Named n ≡ elem.Named m → n ≡ m
 named_same e = cc
 
 -- one key is read
-pub reads_same : (images : List Elem) (count : ℕ) (places key other : List ℕ) → Reads images places count key → Reads images places count other → other ≡ key
+pub reads_same : (images : List Elem) (count : ℕ) (places key other : List ℕ) → AllStand images places count key → AllStand images places count other → other ≡ key
 reads_same images count [] [] [] r s = refl
 reads_same images count [] [] (m ∷ ms) r s = absurd s
 reads_same images count [] (n ∷ ns) other r s = absurd r
@@ -44,9 +45,9 @@ reads_same images count (p ∷ ps) (n ∷ ns) (m ∷ ms) r s =
     let tail : ms ≡ ns = reads_same images count ps ns ms r.1 s.1 in
     λ j. head j ∷ tail j
 
-pub adds_read : (images : List Elem) (count : ℕ) (places key : List ℕ) (old new : List (List ℕ)) → AddsKey old key new → Reads images places count key
-    → (numbers : List ℕ) → Contains new numbers ↔ (Contains old numbers ⊎ Reads images places count numbers)
+pub adds_read : (images : List Elem) (count : ℕ) (places key : List ℕ) (old new : List (List ℕ)) → AddsKey old key new → AllStand images places count key
+    → (numbers : List ℕ) → Contains new numbers ↔ (Contains old numbers ⊎ AllStand images places count numbers)
 adds_read images count places key old new adds reads numbers = (
-  λ c. elim ((adds numbers).0 c) [ inl d ↦ inl d | inr e ↦ inr (subst (Reads images places count) (sym e) reads) ],
+  λ c. elim ((adds numbers).0 c) [ inl d ↦ inl d | inr e ↦ inr (subst (AllStand images places count) (sym e) reads) ],
   λ either. (adds numbers).1 (elim either [ inl d ↦ inl d | inr r ↦ inr (reads_same images count places key numbers reads r) ]),
 )

@@ -1,12 +1,12 @@
 -- Keys by name from keys by number.
-use Rattle.std.proofs.Common.{◌≡◌, ℕ, inl, inr, List, [], ◌∷◌, ◌++◌, All, Contains, Result, Ok, Err, IfOk, refl, sym, ◌∙◌, subst, arith}
+use Rattle.std.proofs.Common.{◌≡◌, ℕ, inl, inr, List, [], ◌∷◌, ◌++◌, All, Contains, Result, Ok, Err, IfOk, refl, sym, ◌∙◌, subst}
 use Rattle.std.proofs.lemmas.List.{append_assoc, append-nil}
 use Rattle.std.specs.List.Sorted.{IsStrictlySortedBy}
 use Rattle.std.proofs.lemmas.List.Elements.{All-contains, Contains-append_left, Contains-append_right, Contains-push, Contains-push_cases}
 use Rattle.dl_base.specs.Answers.{key_cmp}
 use Rattle.dl_base.proofs.RisingLemmas.{contains_first}
 use Rattle.answer_core.specs.Found.{AddsKey, Spells, AreSpelled}
-use Rattle.answer_core.proofs.ListLemmas.{some_same}
+use Rattle.dl_base.proofs.PlaceLemmas.{some_same}
 
 -- numbers spell one key
 pub spells_same : (names : List (List ℕ)) (ns : List ℕ) (key other : List (List ℕ)) → Spells names ns key → Spells names ns other → other ≡ key
@@ -26,13 +26,6 @@ pub record AreSpelledOf (names : List (List ℕ)) (all left : List (List ℕ)) (
   pub whole : done ++ left ≡ all
   pub members : (key : List (List ℕ)) → (Contains keys key → (numbers : List ℕ) × Contains done numbers × Spells names numbers key)
       × ((numbers : List ℕ) → Contains done numbers → Spells names numbers key → Contains keys key)
-
-pub spelled_none : (names : List (List ℕ)) (all : List (List ℕ)) → AreSpelledOf names all all []
-spelled_none names all = record {
-  done = [];
-  whole = refl;
-  members = λ key. (λ c. absurd (omega arith), λ numbers c. absurd (omega arith));
-}
 
 -- what holds of all holds of the next
 pub next_numbers : (P : List ℕ → Type 0) (names : List (List ℕ)) (all left : List (List ℕ)) (numbers : List ℕ) (keys : List (List (List ℕ)))

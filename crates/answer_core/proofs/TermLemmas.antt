@@ -29,14 +29,6 @@ occur_each (new_term {all = all} {distinct = distinct} s before new) t c = elim 
   | inr e ↦ subst (Contains (distinct ++ s ∷ [])) e (Contains-push distinct s)
 ]
 
-pub occur_only : {all distinct : List Term} → Occur all distinct → (t : Term) → Contains distinct t → Contains all t
-occur_only no_term t c = c
-occur_only (known_term {all = all} {distinct = distinct} s before there) t c = Contains-append_left all (s ∷ []) t (occur_only before t c)
-occur_only (new_term {all = all} {distinct = distinct} s before new) t c = elim (Contains-push_cases distinct s t c) [
-  | inl d ↦ Contains-append_left all (s ∷ []) t (occur_only before t d)
-  | inr e ↦ subst (Contains (all ++ s ∷ [])) e (Contains-push all s)
-]
-
 -- each answer variable has a number
 pub answers_occur : (q : Question) (ts : List Term) → IsQuery q → Occur (terms q) ts → (vs : List (List ℕ)) → vs ≡ q.answers → All (λ v. Contains ts (term.Var v)) vs
 answers_occur q ts query occur vs is k d below =

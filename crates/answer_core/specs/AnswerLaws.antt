@@ -31,8 +31,8 @@ KeysAreCertain = (o : Terminology) (rows : List NamedRow) (names : List (List �
     → (All (IsIndividual rows) key × IsCertain o rows q key) ↔ IsKeyOf o table names q key
 
 -- whatever has a successor by r is in A
-abbrev pub domain : Terminology
-domain = record {
+abbrev pub domain_of_r : Terminology
+domain_of_r = record {
   concepts = codes "A" ∷ [];
   roles = codes "r" ∷ [];
   inclusions = record { body = basic.Exists (record { name = 0; inverse = false }) ∷ []; head = head.Basic (basic.Concept 0) } ∷ [];
@@ -48,6 +48,6 @@ who_is_in_a = record { answers = codes "x" ∷ []; atoms = atom.Concept (codes "
 
 -- a is, and no one else; and that is the one key in the completed table, whatever numbers the individuals have
 abbrev pub AIsInA : Type 0
-AIsInA = AreAnswers domain a_has_b who_is_in_a ((codes "a" ∷ []) ∷ [])
-    × ((names : List (List ℕ)) (generation : Role → ℕ) (table : List TableRow) → AreCompleted domain a_has_b names generation table
-    → AreKeys domain table names who_is_in_a ((codes "a" ∷ []) ∷ []))
+AIsInA = AreAnswers domain_of_r a_has_b who_is_in_a ((codes "a" ∷ []) ∷ [])
+    × ((names : List (List ℕ)) (generation : Role → ℕ) (table : List TableRow) → AreCompleted domain_of_r a_has_b names generation table
+    → AreKeys domain_of_r table names who_is_in_a ((codes "a" ∷ []) ∷ []))

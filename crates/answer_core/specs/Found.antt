@@ -19,15 +19,15 @@ abbrev pub Stands : List Elem → ℕ → ℕ → ℕ → Type 0
 Stands images count p n = (slice_get images p ≡ Some (elem.Named n)) × (n < count)
 
 -- the terms of these numbers have these individuals
-abbrev pub Reads : List Elem → List ℕ → ℕ → List ℕ → Type 0
-Reads images places count numbers = AllZip (Stands images count) places numbers
+abbrev pub AllStand : List Elem → List ℕ → ℕ → List ℕ → Type 0
+AllStand images places count numbers = AllZip (Stands images count) places numbers
 
 -- some match that places the fixed terms so has these individuals at the answer places
 pub record IsFoundKey (table : List TableRow) (b : BoundQuery) (fixed : List (Option ℕ)) (count : ℕ) (numbers : List ℕ) : Type 0 where
   pub images : List Elem
   pub match_is : IsShapeMatch table b.shape images
   pub fixed_are : IsFixed fixed images
-  pub reads : Reads images b.answers count numbers
+  pub reads : AllStand images b.answers count numbers
 
 -- one more key, which is one of them however often it was there
 abbrev pub AddsKey : {X : Type 0} → List X → X → List X → Type 0

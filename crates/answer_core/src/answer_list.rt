@@ -10,7 +10,7 @@ ghost use Rattle.dl_base.specs.declared.row.NamedRow.{NamedRow as AnyRow};
 ghost use Rattle.query_shape.specs.Shape.{IsLayout};
 ghost use Rattle.answer_core.specs.AnswerLaws.{HasNoSuccessorHead};
 ghost use Rattle.answer_core.specs.Binding.{IsBoundTo};
-ghost use Rattle.answer_core.specs.Found.{IsFoundKey, IsOf, Reads};
+ghost use Rattle.answer_core.specs.Found.{IsFoundKey, IsOf, AllStand};
 ghost use Rattle.answer_core.specs.Keys.{AreKeys};
 
 use crate::bound::Bound;
@@ -97,7 +97,7 @@ fn add_key(
 ) -> Result<(), AllocError>
     requires places { All (λ p. p < length images.now) places.now }
     requires room { length key.old ≡ length places.now }
-    ensures { OnOk result ((numbers : List ℕ) → Contains found.new numbers ↔ (Contains found.old numbers ⊎ Reads images.now places.now count numbers)) }
+    ensures { OnOk result ((numbers : List ℕ) → Contains found.new numbers ↔ (Contains found.old numbers ⊎ AllStand images.now places.now count numbers)) }
 {
     if read_key(images, places, count, key) {
         found.add(alloc, key)?;
@@ -109,8 +109,8 @@ fn add_key(
 fn read_key(images: &[Elem], places: &[u32], count: usize, key: &mut [u32]) -> bool
     requires places { All (λ p. p < length images.now) places.now }
     requires room { length key.old ≡ length places.now }
-    ensures read { OnTrue result (Reads images.now places.now count key.new) }
-    ensures none { OnFalse result ((numbers : List ℕ) → Reads images.now places.now count numbers → ⊥) }
+    ensures read { OnTrue result (AllStand images.now places.now count key.new) }
+    ensures none { OnFalse result ((numbers : List ℕ) → AllStand images.now places.now count numbers → ⊥) }
 {
     for i in 0..places.len() {
         let Some(number) = individual(images[places[i] as usize], count) else {

@@ -4,28 +4,24 @@ use Rattle.std.specs.Prelude.{◌==◌, ◌||◌, ◌↔◌, IsTrue, IfOk}
 use Rattle.std.proofs.lemmas.Bool.{cases_lt, eqb-true, ne_eqb}
 use Rattle.std.proofs.lemmas.List.{append-nil, append_cancel_left, length-take, drop_all}
 use Rattle.grammar.specs.Bytes.{is_blank, is_kind}
-use Rattle.grammar.specs.Grammar.{means}
 use Rattle.grammar.specs.Reading.{next_is, run_len, run_at, blanks_at}
 use Rattle.grammar.proofs.Exact.{SameHead-refl, Nothing}
 use Rattle.grammar.proofs.Parts.{Every, Every-middle, run_at-run, run_only}
-use Rattle.grammar.proofs.Rules.{Reads, FirstIs, first_then, reads_stop, reads_any, reads_blanks, reads_means}
+use Rattle.grammar.proofs.Rules.{Reads, first_then, reads_stop, reads_any, reads_blanks, reads_means, first_nothing}
 use Rattle.dl_base.specs.Ontology.{Terminology}
 use Rattle.dl_base.specs.Axiom.{Statement, Extends}
 use Rattle.dl_base.specs.declared.ontology.ExtendError.TheVariants.{TooMany}
 use Rattle.axiom_reader.specs.declared.tree.AxiomTree.{AxiomTree}
 use Rattle.axiom_reader.specs.declared.block.BlockCause.{BlockCause}
 use Rattle.axiom_reader.specs.AxiomMeaning.{HasMembers}
-use Rattle.axiom_reader.specs.Block.{Line, IsSkipped, Holds, Takes, Steps, axiom_line, LeadsTo, Offends, AllLead, Gives, ComesTo}
+use Rattle.axiom_reader.specs.Block.{Line, IsSkipped, HoldsAxiom, TakesAxiom, Steps, padded_axiom, LeadsTo, LineOffends, AllLead, LinesGive, ComesTo}
 use Rattle.axiom_reader.specs.BlockReading.{line_at}
 use Rattle.axiom_reader.proofs.FormRules.{reads_axiom, first_axiom}
 use Rattle.axiom_reader.proofs.MeaningRules.{has_members}
 
 -- ---- what a line holds
 
-first_nothing : {V : Type 0} {v : V} {p : ℕ → Bool} → FirstIs (means v) Nothing p false
-first_nothing {V} {v} {p} = record { is = λ t w k s f. ap (λ (x : List ℕ). next_is p (x ++ k)) s.0 ∙ ap (next_is p) f }
-
-pub reads_line : {text : List ℕ} → Reads axiom_line Nothing text (line_at text)
+pub reads_line : {text : List ℕ} → Reads padded_axiom Nothing text (line_at text)
 unfolding line_at
 reads_line =
     reads_stop _ reads_blanks (λ _. first_then (first_axiom refl refl refl refl refl refl)) (λ _ rest.
@@ -33,7 +29,7 @@ reads_line =
     reads_stop _ reads_blanks (λ _. first_nothing) (λ _ rest.
     reads_means)))
 
-pub line_has_members : (text : List ℕ) (tree : AxiomTree) → axiom_line text tree → HasMembers tree
+pub line_has_members : (text : List ℕ) (tree : AxiomTree) → padded_axiom text tree → HasMembers tree
 line_has_members text tree s =
     let a = s.in_second in
     subst HasMembers (sym a.in_second.in_second.1) (has_members a.front a.met a.in_first)
@@ -107,13 +103,13 @@ all_lead_more : (o m new : Terminology) (lines : List Line) (line : Line) → Al
 all_lead_more o m new [] line e step = (new, subst (λ (x : Terminology). LeadsTo x line new) e step, refl)
 all_lead_more o m new (l ∷ lines) line h step = (h.0, h.1, all_lead_more h.0 m new lines line h.2 step)
 
-pub gives_more : (m new : Terminology) (lines : List Line) (line : Line) → Gives lines m → LeadsTo m line new → ComesTo (lines ++ line ∷ []) (Ok new)
+pub gives_more : (m new : Terminology) (lines : List Line) (line : Line) → LinesGive lines m → LeadsTo m line new → ComesTo (lines ++ line ∷ []) (Ok new)
 gives_more m new lines line gives step = all_lead_more _ m new lines line gives step
 
 -- ---- one line
 
-pub taken : {E : Type 0} (o : Terminology) (text : List ℕ) (statement : Statement) (r : Result (Result Terminology BlockCause) E) → Holds text (Some statement) → IfOk r (Takes o statement) → IfOk r (Steps o (Some text))
+pub taken : {E : Type 0} (o : Terminology) (text : List ℕ) (statement : Statement) (r : Result (Result Terminology BlockCause) E) → HoldsAxiom text (Some statement) → IfOk r (TakesAxiom o statement) → IfOk r (Steps o (Some text))
 taken o text statement (Ok (Ok new)) h t = inr (h.0, h.1, subst (λ (a : Statement). Extends o a (Ok new)) h.2 t)
 taken o text statement (Ok (Err cause)) h t =
-    subst (λ (a : BlockCause). Offends o (Some text) a) (sym t.0) (h.0, t.1.0, h.1, subst (λ (a : Statement). Extends o a (Err (TooMany t.1.0))) h.2 t.1.1)
+    subst (λ (a : BlockCause). LineOffends o (Some text) a) (sym t.0) (h.0, t.1.0, h.1, subst (λ (a : Statement). Extends o a (Err (TooMany t.1.0))) h.2 t.1.1)
 taken o text statement (Err e) h t = tt

@@ -14,7 +14,7 @@ use Rattle.axiom_reader.specs.declared.tree.RightSide.TheVariants.{Members, Noth
 use Rattle.axiom_reader.specs.declared.tree.AxiomTree.{AxiomTree}
 use Rattle.axiom_reader.specs.declared.tree.AxiomTree.TheVariants.{SubClassOf, Equivalent, Disjoint, Domain, Range, Class, Property}
 use Rattle.axiom_reader.specs.declared.vocabulary.Vocabulary.{Vocabulary}
-use Rattle.axiom_reader.specs.Vocabulary.{Adds}
+use Rattle.axiom_reader.specs.Vocabulary.{AddsNames}
 use Rattle.axiom_reader.specs.AxiomGrammar.{another, left, axiom_text}
 use Rattle.axiom_reader.specs.AxiomMeaning.{sub_class, apart_from_each, apart, inclusions_of, concept_names_of, role_names_of, in_members, in_right, concepts_in, roles_in, each_once, inverse_of, meaning, HasMembers}
 
@@ -149,7 +149,7 @@ is_statement tree has = record {
 }
 
 -- lists that are those of the meaning
-pub lists_are_statement : (tree : AxiomTree) (names : Vocabulary) (is : List NamedInclusion) → HasMembers tree → Adds (record { concepts = []; roles = [] }) (concepts_in tree) (roles_in tree) names → is ≡ inclusions_of tree
+pub lists_are_statement : (tree : AxiomTree) (names : Vocabulary) (is : List NamedInclusion) → HasMembers tree → AddsNames (record { concepts = []; roles = [] }) (concepts_in tree) (roles_in tree) names → is ≡ inclusions_of tree
     → IsStatement (record { concepts = names.concepts; roles = names.roles; inclusions = is })
 unfolding meaning
 lists_are_statement tree names is has added same =

@@ -1,13 +1,13 @@
 -- Names that are added one behind the other.
-use Rattle.std.proofs.Common.{Bool, true, false, ◌≡◌, ℕ, ◌+◌, ◌<◌, ◌≤◌, List, [], ◌∷◌, ◌++◌, length, get_or, drop, refl, sym, ap, ◌∙◌}
+use Rattle.std.proofs.Common.{Bool, true, false, ◌≡◌, ℕ, ◌+◌, ◌<◌, List, [], ◌∷◌, ◌++◌, length, get_or, drop, refl, sym, ap, ◌∙◌}
 use Rattle.std.specs.List.{flat_map, list_any}
 use Rattle.std.specs.Str.{bytes_eq}
 use Rattle.std.proofs.lemmas.Slice.Eq.{bytes_eq-Decides}
 use Rattle.std.proofs.lemmas.Grind.{fold-append}
-use Rattle.std.proofs.lemmas.List.{at_drop_more, at_drop_all}
+use Rattle.std.proofs.lemmas.List.{at_drop_more}
 use Rattle.dl_base.specs.Axiom.{with_name, with_names}
 use Rattle.axiom_reader.specs.declared.vocabulary.Vocabulary.{Vocabulary}
-use Rattle.axiom_reader.specs.Vocabulary.{Adds}
+use Rattle.axiom_reader.specs.Vocabulary.{AddsNames}
 
 -- ---- one name
 
@@ -38,7 +38,7 @@ pub ruleset known_or_new = (known_name, new_name)
 
 -- ---- lists of names
 
-pub adds_then : (a b d : Vocabulary) (c1 r1 c2 r2 : List (List ℕ)) → Adds a c1 r1 b → Adds b c2 r2 d → Adds a (c1 ++ c2) (r1 ++ r2) d
+pub adds_then : (a b d : Vocabulary) (c1 r1 c2 r2 : List (List ℕ)) → AddsNames a c1 r1 b → AddsNames b c2 r2 d → AddsNames a (c1 ++ c2) (r1 ++ r2) d
 adds_then a b d c1 r1 c2 r2 x y = record {
   concepts = y.concepts ∙ ap (λ (o : List (List ℕ)). with_names o c2) x.concepts ∙ sym (fold-append with_name a.concepts c1 c2);
   roles = y.roles ∙ ap (λ (o : List (List ℕ)). with_names o r2) x.roles ∙ sym (fold-append with_name a.roles r1 r2);
@@ -58,14 +58,8 @@ along {X} f xs total now new i d lt e so_far =
     ∙ so_far
 
 pub adds_more : {X : Type 0} (f g : X → List (List ℕ)) (xs : List X) (old now new : Vocabulary) (i : ℕ) (d : X) → i < length xs
-    → Adds now (f (get_or xs i d)) (g (get_or xs i d)) new → AddsAlong f g xs old now i → AddsAlong f g xs old new (i + 1)
+    → AddsNames now (f (get_or xs i d)) (g (get_or xs i d)) new → AddsAlong f g xs old now i → AddsAlong f g xs old new (i + 1)
 adds_more f g xs old now new i d lt a so_far = record {
   concepts = along f xs (with_names old.concepts (flat_map f xs)) now.concepts new.concepts i d lt a.concepts so_far.concepts;
   roles = along g xs (with_names old.roles (flat_map g xs)) now.roles new.roles i d lt a.roles so_far.roles;
-}
-
-pub adds_all : {X : Type 0} (f g : X → List (List ℕ)) (xs : List X) (old now : Vocabulary) (i : ℕ) → length xs ≤ i → AddsAlong f g xs old now i → Adds old (flat_map f xs) (flat_map g xs) now
-adds_all {X} f g xs old now i le so_far = record {
-  concepts = sym (at_drop_all (λ (ys : List X). with_names now.concepts (flat_map f ys)) xs i le) ∙ so_far.concepts;
-  roles = sym (at_drop_all (λ (ys : List X). with_names now.roles (flat_map g ys)) xs i le) ∙ so_far.roles;
 }

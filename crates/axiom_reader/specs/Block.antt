@@ -33,8 +33,8 @@ abbrev pub IsSkipped : List ℕ → Type 0
 IsSkipped text = IsBlankLine text ⊎ IsComment text
 
 -- an axiom, which may have blanks before and behind it
-abbrev pub axiom_line : Grammar AxiomTree
-axiom_line = do
+abbrev pub padded_axiom : Grammar AxiomTree
+padded_axiom = do
   blanks
   tree ← axiom_text
   blanks
@@ -43,29 +43,29 @@ axiom_line = do
 -- the line leads from one ontology to another: it is skipped, or it holds an axiom that passes no limit
 abbrev pub LeadsTo : Terminology → Line → Terminology → Type 0
 LeadsTo o None new = ⊥
-LeadsTo o (Some text) new = (IsSkipped text × (new ≡ o)) ⊎ ((tree : AxiomTree) × axiom_line text tree × Extends o (meaning tree) (Ok new))
+LeadsTo o (Some text) new = (IsSkipped text × (new ≡ o)) ⊎ ((tree : AxiomTree) × padded_axiom text tree × Extends o (meaning tree) (Ok new))
 
 -- the line is too long; or it is neither skipped nor an axiom; or its axiom passes a limit of the ontology
-abbrev pub Offends : Terminology → Line → BlockCause → Type 0
-Offends o None cause = cause ≡ Length
-Offends o (Some text) Syntax = (IsSkipped text → ⊥) × (Contains axiom_line text → ⊥)
-Offends o (Some text) Limit = (tree : AxiomTree) × (which : Which) × axiom_line text tree × Extends o (meaning tree) (Err (TooMany which))
-Offends o (Some text) Length = ⊥
+abbrev pub LineOffends : Terminology → Line → BlockCause → Type 0
+LineOffends o None cause = cause ≡ Length
+LineOffends o (Some text) Syntax = (IsSkipped text → ⊥) × (Contains padded_axiom text → ⊥)
+LineOffends o (Some text) Limit = (tree : AxiomTree) × (which : Which) × padded_axiom text tree × Extends o (meaning tree) (Err (TooMany which))
+LineOffends o (Some text) Length = ⊥
 
 -- the axiom that the text holds, or nothing where it holds none
-abbrev pub Holds : List ℕ → Option Statement → Type 0
-Holds text (Some statement) = (tree : AxiomTree) × axiom_line text tree × (statement ≡ meaning tree)
-Holds text None = Contains axiom_line text → ⊥
+abbrev pub HoldsAxiom : List ℕ → Option Statement → Type 0
+HoldsAxiom text (Some statement) = (tree : AxiomTree) × padded_axiom text tree × (statement ≡ meaning tree)
+HoldsAxiom text None = Contains padded_axiom text → ⊥
 
 -- the ontology with the axiom, or that the axiom passes a limit
-abbrev pub Takes : Terminology → Statement → Result Terminology BlockCause → Type 0
-Takes o statement (Ok new) = Extends o statement (Ok new)
-Takes o statement (Err cause) = (cause ≡ Limit) × ((which : Which) × Extends o statement (Err (TooMany which)))
+abbrev pub TakesAxiom : Terminology → Statement → Result Terminology BlockCause → Type 0
+TakesAxiom o statement (Ok new) = Extends o statement (Ok new)
+TakesAxiom o statement (Err cause) = (cause ≡ Limit) × ((which : Which) × Extends o statement (Err (TooMany which)))
 
 -- where the line leads, or why it offends
 abbrev pub Steps : Terminology → Line → Result Terminology BlockCause → Type 0
 Steps o line (Ok new) = LeadsTo o line new
-Steps o line (Err cause) = Offends o line cause
+Steps o line (Err cause) = LineOffends o line cause
 
 -- ---- all lines
 
@@ -78,8 +78,8 @@ abbrev pub no_names : Terminology
 no_names = record { concepts = []; roles = []; inclusions = [] }
 
 -- none of the lines offends, and the ontology is that of all their axioms
-abbrev pub Gives : List Line → Terminology → Type 0
-Gives lines o = AllLead no_names lines o
+abbrev pub LinesGive : List Line → Terminology → Type 0
+LinesGive lines o = AllLead no_names lines o
 
 -- The first line that offends, counted from 1: those before it give an ontology, and at this one the line offends.
 pub record IsFirstOffence (lines : List Line) (error : BlockError) : Type 0 where
@@ -88,13 +88,13 @@ pub record IsFirstOffence (lines : List Line) (error : BlockError) : Type 0 wher
   pub after : List Line
   pub cut : lines ≡ before ++ line ∷ after
   pub o : Terminology
-  pub gives : Gives before o
-  pub offends : Offends o line error.cause
+  pub gives : LinesGive before o
+  pub offends : LineOffends o line error.cause
   pub place : error.line ≡ length before + 1
 
 -- what the lines come to: their ontology, or the first that offends
 abbrev pub ComesTo : List Line → Result Terminology BlockError → Type 0
-ComesTo lines (Ok o) = Gives lines o
+ComesTo lines (Ok o) = LinesGive lines o
 ComesTo lines (Err error) = IsFirstOffence lines error
 
 -- ---- a block
@@ -105,13 +105,13 @@ pub record Progress : Type 0 where
   pub outcome : Result Terminology BlockError
 
 -- the block was given these lines
-pub record StandsFor (lines : List Line) (p : Progress) : Type 0 where
+pub record IsProgressOf (lines : List Line) (p : Progress) : Type 0 where
   pub count : p.lines ≡ length lines
   pub outcome : ComesTo lines p.outcome
 
 -- a block that is cut off offends at the line after its last one
 abbrev pub IsCutOff : List Line → BlockError → Type 0
-IsCutOff lines error = (o : Terminology) × Gives lines o × (error ≡ record { line = length lines + 1; cause = Syntax })
+IsCutOff lines error = (o : Terminology) × LinesGive lines o × (error ≡ record { line = length lines + 1; cause = Syntax })
 
 -- what a block of these lines is, which was ended or was cut off
 abbrev pub BlockGives : List Line → Bool → Result Terminology BlockError → Type 0

@@ -3,7 +3,7 @@
 ghost use Rattle.std.specs.Prelude.{◌≡◌, ◌+◌, ◌^◌, ◌<◌, ◌++◌, ◌∷◌, ◌↔◌, [], IfOk, OnOk, IsTrue, List, length};
 ghost use Rattle.std.specs.Option.{option_copied};
 ghost use Rattle.grammar.specs.Reading.{Gives, whole};
-ghost use Rattle.axiom_reader.specs.Block.{Line, IsSkipped, Holds, Takes, Steps, ComesTo, StandsFor, BlockGives};
+ghost use Rattle.axiom_reader.specs.Block.{Line, IsSkipped, HoldsAxiom, TakesAxiom, Steps, ComesTo, IsProgressOf, BlockGives};
 ghost use Rattle.axiom_reader.specs.BlockReading.{line_at};
 
 use crate::axiom::axiom_of;
@@ -64,7 +64,7 @@ fn read_line_tree(alloc: Global, text: &[u8]) -> Result<AxiomTree, ReadError>
 
 /// The axiom of a line, or nothing where it holds none.
 fn read_line(alloc: Global, text: &[u8]) -> Result<Option<Axiom>, AllocError>
-    ensures { IfOk result (Holds text.now) }
+    ensures { IfOk result (HoldsAxiom text.now) }
 {
     match read_line_tree(alloc, text) {
         Ok(tree) => Ok(Some(axiom_of(alloc, &tree)?)),
@@ -79,7 +79,7 @@ fn extended(
     ontology: Ontology,
     added: &Axiom,
 ) -> Result<Result<Ontology, BlockCause>, AllocError>
-    ensures { IfOk result (Takes ontology added.now) }
+    ensures { IfOk result (TakesAxiom ontology added.now) }
 {
     match ontology.extend(alloc, added) {
         Ok(new) => Ok(Ok(new)),
@@ -160,7 +160,7 @@ impl Model for Block {
 impl Block {
     /// The block without lines.
     pub fn new(alloc: Global) -> Result<Block, AllocError>
-        ensures { IfOk result (StandsFor []) }
+        ensures { IfOk result (IsProgressOf []) }
     {
         Ok(Block {
             alloc,
@@ -171,8 +171,8 @@ impl Block {
 
     /// Takes one line more; none stands for a line that is too long. After `AllocError` the block is given up.
     pub fn line(&mut self, text: Option<&[u8]>) -> Result<(), AllocError>
-        ensures { (lines : List Line) → StandsFor lines self.old → length lines < 2 ^ 63
-            → OnOk result (StandsFor (lines ++ option_copied text.entry ∷ []) self.new) }
+        ensures { (lines : List Line) → IsProgressOf lines self.old → length lines < 2 ^ 63
+            → OnOk result (IsProgressOf (lines ++ option_copied text.entry ∷ []) self.new) }
     {
         self.lines = self.lines.saturating_add(1);
         let given_up = BlockError {
@@ -187,7 +187,7 @@ impl Block {
     /// The ontology of all axioms, or the first line that offends. Where none does and the block was not ended, it is
     /// the line after the last, with the cause `Syntax`. It takes no memory.
     pub fn finish(self, ended: bool) -> BlockResult
-        ensures { (lines : List Line) → StandsFor lines self → length lines < 2 ^ 63 → BlockGives lines ended result }
+        ensures { (lines : List Line) → IsProgressOf lines self → length lines < 2 ^ 63 → BlockGives lines ended result }
     {
         let Block {
             alloc: _,

@@ -29,7 +29,7 @@ fn add_name(alloc: Global, names: &mut Names, name: &Name) -> Result<(), AllocEr
 }
 
 impl Vocabulary {
-    ghost use Rattle.axiom_reader.specs.Vocabulary.{Adds};
+    ghost use Rattle.axiom_reader.specs.Vocabulary.{AddsNames};
 
     /// The one without names.
     pub(crate) fn new(alloc: Global) -> Vocabulary
@@ -42,19 +42,19 @@ impl Vocabulary {
     }
 
     fn add_concept(&mut self, alloc: Global, name: &Name) -> Result<(), AllocError>
-        ensures { OnOk result (Adds self.old (name.now ∷ []) [] self.new) }
+        ensures { OnOk result (AddsNames self.old (name.now ∷ []) [] self.new) }
     {
         add_name(alloc, &mut self.concepts, name)
     }
 
     fn add_role(&mut self, alloc: Global, name: &Name) -> Result<(), AllocError>
-        ensures { OnOk result (Adds self.old [] (name.now ∷ []) self.new) }
+        ensures { OnOk result (AddsNames self.old [] (name.now ∷ []) self.new) }
     {
         add_name(alloc, &mut self.roles, name)
     }
 
     fn add_basic(&mut self, alloc: Global, basic: &NamedBasic) -> Result<(), AllocError>
-        ensures { OnOk result (Adds self.old (concept_names_of basic.now) (role_names_of basic.now) self.new) }
+        ensures { OnOk result (AddsNames self.old (concept_names_of basic.now) (role_names_of basic.now) self.new) }
     {
         match basic {
             NamedBasic::Concept(name) => self.add_concept(alloc, name),
@@ -63,7 +63,7 @@ impl Vocabulary {
     }
 
     fn add_members(&mut self, alloc: Global, members: &[NamedBasic]) -> Result<(), AllocError>
-        ensures { OnOk result (Adds self.old (in_members concept_names_of members.now) (in_members role_names_of members.now) self.new) }
+        ensures { OnOk result (AddsNames self.old (in_members concept_names_of members.now) (in_members role_names_of members.now) self.new) }
     {
         for basic in members {
             self.add_basic(alloc, basic)?;
@@ -72,7 +72,7 @@ impl Vocabulary {
     }
 
     fn add_right(&mut self, alloc: Global, right: &RightSide) -> Result<(), AllocError>
-        ensures { OnOk result (Adds self.old (in_right concept_names_of right.now) (in_right role_names_of right.now) self.new) }
+        ensures { OnOk result (AddsNames self.old (in_right concept_names_of right.now) (in_right role_names_of right.now) self.new) }
     {
         match right {
             RightSide::Members(members) => self.add_members(alloc, members.items()),
@@ -81,7 +81,7 @@ impl Vocabulary {
     }
 
     fn add_sides(&mut self, alloc: Global, sides: &[Members]) -> Result<(), AllocError>
-        ensures { OnOk result (Adds self.old (flat_map (in_members concept_names_of) sides.now) (flat_map (in_members role_names_of) sides.now) self.new) }
+        ensures { OnOk result (AddsNames self.old (flat_map (in_members concept_names_of) sides.now) (flat_map (in_members role_names_of) sides.now) self.new) }
     {
         for side in sides {
             self.add_members(alloc, side.items())?;
@@ -92,7 +92,7 @@ impl Vocabulary {
     /// Appends the new ones of the axiom's names, in order of the text.
     #[tactic(auto, using(crate::proofs::NamesRules::adds_then))]
     pub(crate) fn add_axiom(&mut self, alloc: Global, tree: &AxiomTree) -> Result<(), AllocError>
-        ensures { OnOk result (Adds self.old (concepts_in tree.now) (roles_in tree.now) self.new) }
+        ensures { OnOk result (AddsNames self.old (concepts_in tree.now) (roles_in tree.now) self.new) }
     {
         match tree {
             AxiomTree::SubClassOf(left, right) => {

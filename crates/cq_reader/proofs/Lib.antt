@@ -1,3 +1,4 @@
+pub mod VariableRules
 pub mod LimitRules
 pub mod QueryRules
 pub mod TermCounts

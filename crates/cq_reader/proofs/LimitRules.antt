@@ -5,7 +5,7 @@ use Rattle.std.proofs.lemmas.List.{get_or_default, at_drop_more, take-append-dro
 use Rattle.std.proofs.lemmas.List.Elements.{All-push, All-weaker, All-nil, All-contains, Contains-append_left, Contains-push}
 use Rattle.std.proofs.lemmas.List.Quantifiers.{all_pairs_push}
 use Rattle.std.proofs.lemmas.Grind.{flat_map-append}
-use Rattle.dl_base.specs.Query.{Question, IsQuery, terms, terms_of}
+use Rattle.dl_base.specs.Query.{Question, HasBareVariables, IsQuery, terms, terms_of}
 use Rattle.dl_base.specs.declared.query.Term.TheVariants.{Var}
 use Rattle.dl_base.specs.declared.query.Term.{Term}
 use Rattle.dl_base.specs.declared.query.Atom.{Atom}
@@ -13,7 +13,7 @@ use Rattle.grammar.proofs.Exact.{IsValueOf}
 use Rattle.cq_reader.specs.declared.query.QueryError.{QueryError}
 use Rattle.cq_reader.specs.declared.query.QueryError.TheVariants.{Syntax, TooLarge, Unsafe, NoMemory}
 use Rattle.cq_reader.specs.QueryText.{query}
-use Rattle.cq_reader.specs.QueryFault.{Means, IsUnfit, IsRefused}
+use Rattle.cq_reader.specs.QueryFault.{MeansQuery, IsUnfit, IsRefused}
 use Rattle.cq_reader.specs.QueryLimits.{AreDistinctOf, IsSmall, IsTooLarge, IsFirstUnbound}
 
 pub distinct_none : AreDistinctOf [] []
@@ -59,13 +59,14 @@ module _ (q : Question) (found : List Term) (a : AreDistinctOf (terms q) found) 
   bound_of : (v : List ℕ) → Contains found (Var v) → Contains (terms q) (Var v)
   bound_of v there = All-contains (Contains (terms q)) found (Var v) a.within there
 
-  pub query_of : IsSmall q → 1 ≤ length q.atoms → All (λ v. Contains found (Var v)) q.answers → IsQuery q
-  query_of small some bound = record {
+  pub query_of : IsSmall q → 1 ≤ length q.atoms → HasBareVariables q → All (λ v. Contains found (Var v)) q.answers → IsQuery q
+  query_of small some bare bound = record {
     some = some;
     atoms = small.atoms;
     answers = small.answers;
     distinct = small.terms;
     safe = All-weaker (λ v. Contains found (Var v)) (λ v. Contains (terms q) (Var v)) bound_of q.answers bound;
+    variables = bare;
   }
 
   pub unbound_of : (i : ℕ) (v : List ℕ) → i < length q.answers → v ≡ get_or q.answers i v → All (λ v. Contains found (Var v)) (take i q.answers) → HoldsAt (λ v. Contains found (Var v) → ⊥) q.answers i → IsFirstUnbound q v
@@ -83,7 +84,7 @@ pub ok_more : {A E : Type 0} {P Q : A → Type 0} (r : Result A E) → ((x : A) 
 ok_more (Ok x) f p = f x p
 ok_more (Err e) f p = tt
 
-pub means_of : {text : List ℕ} {q : Question} → IsValueOf query text q → Means text q
+pub means_of : {text : List ℕ} {q : Question} → IsValueOf query text q → MeansQuery text q
 means_of v = record { is = v.is; only = v.only }
 
 pub some_atoms : (text : List ℕ) (q : Question) → query text q → 1 ≤ length q.atoms
@@ -91,11 +92,11 @@ some_atoms text q s =
     let others = s.in_second.in_second.in_second.in_second.in_second.in_second.in_second.in_second.in_second in
     subst (λ (a : Question). 1 ≤ length a.atoms) (sym others.in_second.1) (omega arith)
 
-pub passes : (text : List ℕ) (q : Question) (r : Result Question QueryError) → Means text q → IfOk r (λ found. (found ≡ q) × IsQuery found) → IfOk r (λ found. Means text found × IsQuery found)
-passes text q (Ok found) m p = (subst (λ (a : Question). Means text a) (sym p.0) m, p.1)
+pub passes : (text : List ℕ) (q : Question) (r : Result Question QueryError) → MeansQuery text q → IfOk r (λ found. (found ≡ q) × IsQuery found) → IfOk r (λ found. MeansQuery text found × IsQuery found)
+passes text q (Ok found) m p = (subst (λ (a : Question). MeansQuery text a) (sym p.0) m, p.1)
 passes text q (Err e) m p = tt
 
-pub refuses : (text : List ℕ) (q : Question) (r : Result Question QueryError) → Means text q → IfErr r (λ e. IsUnfit q e) → IfErr r (λ e. IsRefused text e)
+pub refuses : (text : List ℕ) (q : Question) (r : Result Question QueryError) → MeansQuery text q → IfErr r (λ e. IsUnfit q e) → IfErr r (λ e. IsRefused text e)
 refuses text q (Ok found) m p = tt
 refuses text q (Err (Syntax place)) m p = absurd p
 refuses text q (Err TooLarge) m p = (q, m, p)

@@ -8,7 +8,7 @@ use Rattle.cq_reader.specs.QueryText.{query}
 use Rattle.cq_reader.specs.QueryLimits.{IsSmall, IsTooLarge, IsFirstUnbound}
 
 -- the text is the query's, and no other query's
-pub record Means (text : List ℕ) (q : Question) : Type 0 where
+pub record MeansQuery (text : List ℕ) (q : Question) : Type 0 where
   pub is : query text q
   pub only : (other : Question) → query text other → other ≡ q
 
@@ -22,6 +22,6 @@ IsUnfit q NoMemory = Unit {0}
 -- Why a text is refused: first because it is no query's. The place is counted from 1. Memory may run out at any text.
 abbrev pub IsRefused : List ℕ → QueryError → Type 0
 IsRefused text (Syntax place) = (at : ℕ) × (place ≡ at + 1) × IsFaultAt query text at
-IsRefused text TooLarge = (q : Question) × Means text q × IsTooLarge q
-IsRefused text (Unsafe v) = (q : Question) × Means text q × IsSmall q × IsFirstUnbound q v
+IsRefused text TooLarge = (q : Question) × MeansQuery text q × IsTooLarge q
+IsRefused text (Unsafe v) = (q : Question) × MeansQuery text q × IsSmall q × IsFirstUnbound q v
 IsRefused text NoMemory = Unit {0}

@@ -28,13 +28,13 @@ abbrev pub IsTooLarge : Question → Type 0
 IsTooLarge q = (24 < length q.atoms) ⊎ (24 < length q.answers) ⊎ HasMoreTerms q 24
 
 -- the variable is in an atom
-abbrev pub IsBound : Question → List ℕ → Type 0
-IsBound q v = Contains (terms q) (term.Var v)
+abbrev pub IsBoundVariable : Question → List ℕ → Type 0
+IsBoundVariable q v = Contains (terms q) (term.Var v)
 
 -- the first answer variable that is in no atom
 pub record IsFirstUnbound (q : Question) (v : List ℕ) : Type 0 where
   pub before : List (List ℕ)
   pub after : List (List ℕ)
   pub parts : q.answers ≡ before ++ v ∷ after
-  pub bound : All (IsBound q) before
-  pub here : IsBound q v → ⊥
+  pub bound : All (IsBoundVariable q) before
+  pub here : IsBoundVariable q v → ⊥

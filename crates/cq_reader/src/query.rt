@@ -2,9 +2,9 @@
 
 ghost use Rattle.std.specs.Prelude.{◌≡◌, ◌≤◌, IfOk, IfErr, length};
 ghost use Rattle.grammar.specs.Reading.{Gives, whole};
-ghost use Rattle.dl_base.specs.Query.{IsQuery};
+ghost use Rattle.dl_base.specs.Query.{HasBareVariables, IsQuery};
 ghost use Rattle.cq_reader.specs.QueryReading.{query_at};
-ghost use Rattle.cq_reader.specs.QueryFault.{Means, IsRefused, IsUnfit};
+ghost use Rattle.cq_reader.specs.QueryFault.{MeansQuery, IsRefused, IsUnfit};
 ghost use Rattle.cq_reader.specs.declared.query.QueryError.TheVariants.{NoMemory};
 
 use crate::atoms::{read_answers, read_atom, read_atoms_on};
@@ -77,7 +77,8 @@ fn whole_draft(alloc: Global, text: &[u8]) -> Result<Draft, ReadError>
 
 /// The query, where it is within the limits and each answer variable is in an atom.
 fn fitting(alloc: Global, draft: Draft) -> Result<Query, QueryError>
-    requires { 1 ≤ length draft.atoms }
+    requires some { 1 ≤ length draft.atoms }
+    requires variables { HasBareVariables (record { answers = draft.answers; atoms = draft.atoms }) }
     ensures found { IfOk result (λ q. (q ≡ record { answers = draft.answers; atoms = draft.atoms }) × IsQuery q) }
     ensures refused { IfErr result (λ e. IsUnfit (record { answers = draft.answers; atoms = draft.atoms }) e) }
 {
@@ -100,7 +101,7 @@ fn fitting(alloc: Global, draft: Draft) -> Result<Query, QueryError>
 /// The query that the text means.
 pub fn read_query(alloc: Global, text: &[u8]) -> Result<Query, QueryError>
     // The text is this query's and no other's, and it is within the limits.
-    ensures found { IfOk result (λ q. Means text.now q × IsQuery q) }
+    ensures found { IfOk result (λ q. MeansQuery text.now q × IsQuery q) }
 
     // Each error comes exactly where it says, in the order of `QueryError`.
     ensures refused { IfErr result (λ e. IsRefused text.now e) }

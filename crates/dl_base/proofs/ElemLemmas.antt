@@ -12,7 +12,7 @@ use Rattle.dl_base.specs.declared.element.Elem.TheVariants as elem
 use Rattle.dl_base.proofs.RisingLemmas.{nat_same}
 use Rattle.dl_base.proofs.RowLemmas.{total_as, then_equal, then_first, then_second}
 
-bit : Bool → ℕ
+pub bit : Bool → ℕ
 bit false = 0
 bit true = 1
 
@@ -21,7 +21,7 @@ numbers_of : Elem → List ℕ
 numbers_of (elem.Named n) = 0 ∷ n ∷ []
 numbers_of (elem.Shared w) = 1 ∷ w.role.name ∷ bit w.role.inverse ∷ w.generation ∷ []
 
-bit_cmp : (x y : Bool) → nat_cmp (bit x) (bit y) ≡ inverse_cmp x y
+pub bit_cmp : (x y : Bool) → nat_cmp (bit x) (bit y) ≡ inverse_cmp x y
 unfolding bit
 bit_cmp false false = refl
 bit_cmp false true = refl
@@ -42,7 +42,7 @@ by_numbers (elem.Shared w) (elem.Shared v) =
 pub elem_total : IsTotalOrder elem_cmp
 elem_total = total_as (on numbers_of (slice_cmp nat_cmp)) elem_cmp by_numbers (on_total numbers_of nat_list_cmp_total)
 
-inverse_same : (x y : Bool) → inverse_cmp x y ≡ Equal → x ≡ y
+pub inverse_same : (x y : Bool) → inverse_cmp x y ≡ Equal → x ≡ y
 inverse_same false false e = refl
 inverse_same false true e = absurd cc
 inverse_same true false e = absurd cc

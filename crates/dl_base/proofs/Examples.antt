@@ -2,7 +2,9 @@
 use Rattle.std.proofs.Common.{◌≡◌, ℕ, zero, suc, List, [], ◌∷◌, Contains, All, map, refl, sym, subst, ap, codes, arith, Bool, true, false, if◌then◌else◌, inl, inr}
 use Rattle.std.specs.Str.{bytes_eq}
 use Rattle.dl_base.specs.Laws.{AnnIsStaff, staff, ann_is_a_professor, who_is_staff, WitnessServes, successors}
+use Rattle.dl_base.specs.Names.{IsVariableName}
 use Rattle.dl_base.specs.Derivation.{leaf, node, none, each}
+use Rattle.dl_base.proofs.NameRules.{bare_of}
 use Rattle.dl_base.specs.Unfolding.{Element, Named, Next, Exists, DerivedAt}
 use Rattle.dl_base.specs.Rows.{IsIndividual, Names}
 use Rattle.dl_base.specs.Answers.{Holds, IsCertain, key_cmp}
@@ -24,6 +26,16 @@ only_item x t (suc k, below, at) = absurd (omega arith)
 
 pub first_item : {X : Type 0} (x : X) (xs : List X) → Contains (x ∷ xs) x
 first_item x xs = (0, omega arith, refl)
+
+-- the one variable of a list of terms
+pub only_variable : (x : List ℕ) → IsVariableName x → (v : List ℕ) → Contains (term.Var x ∷ []) (term.Var v) → IsVariableName v
+only_variable x is v there = subst IsVariableName (sym (name v x (only_item (term.Var x) (term.Var v) there))) is
+  where
+    name : (v w : List ℕ) → term.Var v ≡ term.Var w → v ≡ w
+    name v w e = cc
+
+pub x_is_variable : IsVariableName (codes "x")
+x_is_variable = (bare_of (codes "x") (refl, tt) refl, omega arith)
 
 only_ann : (a : List ℕ) → IsIndividual ann_is_a_professor a → a ≡ codes "ann"
 only_ann a (row, there, names) = subst (Names a) (only_item _ row there) names

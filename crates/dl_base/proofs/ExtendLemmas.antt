@@ -7,6 +7,7 @@ use Rattle.std.proofs.lemmas.Grind.{take_at_read, fold-append}
 use Rattle.std.proofs.lemmas.List.Elements.{All-weaker, All-append, All-nil, All-cons, All-head, All-tail, Contains-push, Contains-append_left}
 use Rattle.std.proofs.lemmas.Option.{slice_get_within}
 use Rattle.dl_base.specs.Ontology.{Terminology, IsTerminology, IsPlaced, IsPlacedHead, IsWithin}
+use Rattle.dl_base.proofs.PlaceLemmas.{zip_push, zip_length}
 use Rattle.indexmap.proofs.CallerLemmas.{Contains-list_any}
 use Rattle.dl_base.specs.Book.{Interns}
 use Rattle.dl_base.specs.Axiom.{with_name, with_names, Numbers, NumbersInclusion, AddsInclusions, IsNamed, IsNamedHead, AreNamed, NumbersHead, Statement, IsStatement, Passes, IsExtended, Adds, Extends}
@@ -68,20 +69,6 @@ names_too_many old (x ∷ xs) zero most h =
     let grow : length old ≤ length (with_names old (x ∷ xs)) = names_grow old (x ∷ xs) in omega arith
 names_too_many old (x ∷ xs) (suc k) most h = names_too_many (with_name old x) xs k most h
 
-nothing_more : {X : Type 0} (xs : List X) → xs ++ [] ≡ xs
-nothing_more [] = refl
-nothing_more (x ∷ xs) = ap (λ ys. x ∷ ys) (nothing_more xs)
-
--- one more pair at the end of both lists
-pub zip_push : {A B : Type 0} (R : A → B → Type 0) (xs : List A) (ys : List B) (x : A) (y : B) → AllZip R xs ys → R x y → AllZip R (xs ++ x ∷ []) (ys ++ y ∷ [])
-zip_push R [] [] x y all r = (r, tt)
-zip_push R [] (b ∷ ys) x y all r = absurd all
-zip_push R (a ∷ xs) [] x y all r = absurd all
-zip_push R (a ∷ xs) (b ∷ ys) x y all r = (all.0, zip_push R xs ys x y all.1 r)
-
-pub adds_none : (cs rs : List (List ℕ)) (old : List Inclusion) → AddsInclusions cs rs old [] old
-adds_none cs rs old = record { added = []; last = sym (nothing_more old); each = tt }
-
 pub adds_more : (cs rs : List (List ℕ)) (old new : List Inclusion) (more : List NamedInclusion) (k : ℕ) (d : NamedInclusion) (j : Inclusion) → k < length more
     → AddsInclusions cs rs old (take k more) new → NumbersInclusion cs rs (get_or more k d) j → AddsInclusions cs rs old (take (k + 1) more) (new ++ j ∷ [])
 adds_more cs rs old new more k d j below a n = rw (take_at_read more k d below).1 (record {
@@ -109,7 +96,7 @@ name_there names name = by (list_any (bytes_eq name) names) refl
     by true e = Contains-list_any bytes_eq (λ x y h. (bytes_eq-Decides x y).0 h) names name e
     by false e = Contains-push names name
 
-name_stays : (names : List (List ℕ)) (more name : List ℕ) → Contains names name → Contains (with_name names more) name
+pub name_stays : (names : List (List ℕ)) (more name : List ℕ) → Contains names name → Contains (with_name names more) name
 name_stays names more name c = by (list_any (bytes_eq more) names)
   where
     by : (b : Bool) → Contains (if b then names else names ++ more ∷ []) name
@@ -141,12 +128,6 @@ all_named cs rs cs' rs' is f g all = All-weaker (AreNamed cs rs) (AreNamed cs' r
   body = All-weaker (IsNamed cs rs) (IsNamed cs' rs') (λ b h. basic_named cs rs cs' rs' b f g h) i.body n.body;
   head = head_named cs rs cs' rs' i.head f g n.head;
 }) is all
-
-zip_length : {A B : Type 0} (R : A → B → Type 0) (xs : List A) (ys : List B) → AllZip R xs ys → length ys ≡ length xs
-zip_length R [] [] all = refl
-zip_length R [] (b ∷ ys) all = absurd all
-zip_length R (a ∷ xs) [] all = absurd all
-zip_length R (a ∷ xs) (b ∷ ys) all = ap suc (zip_length R xs ys all.1)
 
 -- what R gives of each pair, where P holds of the first
 zip_all : {A B : Type 0} (R : A → B → Type 0) (P : A → Type 0) (Q : B → Type 0) → ((a : A) (b : B) → P a → R a b → Q b)
@@ -237,19 +218,3 @@ adds_err o a new errors.NoMemory h = tt
 pub adds_err_as : (o o' : Terminology) (a a' : Statement) (new : Terminology) (e : ExtendError) → o ≡ o' → a ≡ a' → Adds o a (Err e) new → Extends o' a' (Err e)
 adds_err_as o o' a a' new e p q h =
     subst (λ (x : Terminology). Extends x a' (Err e)) p (subst (λ (y : Statement). Extends o y (Err e)) q (adds_err o a new e h))
-
--- the statement that the one is in the other
-pub sub_statement : (cs rs : List (List ℕ)) (is : List NamedInclusion) (body : List NamedBasic) (a b a' b' : List ℕ)
-    → cs ≡ a ∷ b ∷ [] → a' ≡ a → b' ≡ b → body ≡ named.Concept a' ∷ [] → is ≡ record { body = body; head = named_head.Basic (named.Concept b') } ∷ []
-    → IsStatement (record { concepts = cs; roles = rs; inclusions = is })
-sub_statement cs rs is body a b a' b' c p q bs e =
-    rw (e, bs, p, q, c) (record {
-      some = All-cons (λ i. 1 ≤ length i.body) _ [] (omega arith) (All-nil (λ i. 1 ≤ length i.body));
-      named = All-cons (AreNamed (a ∷ b ∷ []) rs) _ [] (record {
-        body = All-cons (IsNamed (a ∷ b ∷ []) rs) (named.Concept a) [] (0, omega arith, refl) (All-nil (IsNamed (a ∷ b ∷ []) rs));
-        head = (1, omega arith, refl);
-      }) (All-nil (AreNamed (a ∷ b ∷ []) rs));
-    })
-
-pub pushed_one : {X : Type 0} (xs ys : List X) (x : X) → xs ≡ [] → ys ≡ xs ++ x ∷ [] → ys ≡ x ∷ []
-pushed_one xs ys x e f = f ∙ ap (λ zs. zs ++ x ∷ []) e

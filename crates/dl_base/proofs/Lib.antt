@@ -4,8 +4,12 @@ pub mod DerivationLemmas
 pub mod Examples
 pub mod BookLemmas
 pub mod RisingLemmas
+pub mod PlaceLemmas
 pub mod ExtendLemmas
 pub mod RowLemmas
 pub mod ElemLemmas
 pub mod TableExamples
 pub mod SetLemmas
+pub mod SmallOntologies
+pub mod ClashLemmas
+pub mod ClashExamples

@@ -198,9 +198,6 @@ name_value text value (inr a) =
 pub name_of_bare : (most : ℕ) (w : List ℕ) → most ≤ 255 → IsBare w → length w ≤ most → IsName w
 name_of_bare most w le b short = (w, inl (b, omega (arith, le, short), refl))
 
-pub name_of_word : (w : List ℕ) → IsWord w → length w ≤ 255 → is_reserved w ≡ false → IsName w
-name_of_word w word short free = name_of_bare 255 w (omega arith) (bare_of w word free) short
-
 -- what a reader gave at a text is in its grammar
 pub read_of : {V : Type 0} {g : Grammar V} {F : Follow V} {text : List ℕ} {r : Outcome V} (v : V) (rest : List ℕ) → Reads g F text r → r ≡ Ok (v, rest) → IsRead g F text v rest
 read_of {V} {g} {F} {text} {r} v rest d e = subst (λ (o : Outcome V). IsExact g F text o) e d.is

@@ -1,5 +1,5 @@
 -- Laws of rows: their order, and the strictly rising lists of what is asserted.
-use Rattle.std.proofs.Common.{◌≡◌, ℕ, suc, ◌⊎◌, inl, inr, List, [], ◌∷◌, ◌++◌, Contains, refl, sym, ◌∙◌, ap, subst, arith}
+use Rattle.std.proofs.Common.{◌≡◌, ℕ, suc, ◌⊎◌, inl, inr, List, [], ◌∷◌, ◌++◌, Contains, refl, sym, ◌∙◌, ap, arith}
 use Rattle.std.specs.Cmp.{IsTotalOrder}
 use Rattle.std.specs.Cmp.Lexicographic.{slice_cmp}
 use Rattle.std.specs.List.Sorted.{IsStrictlySortedBy}
@@ -7,14 +7,10 @@ use Rattle.std.specs.declared.cmp.Ordering.{Ordering}
 use Rattle.std.specs.declared.cmp.Ordering.TheVariants.{Less, Equal, Greater}
 use Rattle.std.specs.Ordering.{ordering_then, nat_cmp, on, then_cmp}
 use Rattle.std.proofs.lemmas.Cmp.{nat_cmp_total, nat_list_cmp_total, lists_total, on_total, then_total}
-use Rattle.std.proofs.lemmas.List.Elements.{Contains-append_left, Contains-push}
-use Rattle.dl_base.specs.Ontology.{Terminology}
-use Rattle.dl_base.specs.Rows.{name_cmp, row_cmp, row_of, AreRowsOf, AreIndividuals, IsIndividual, Held}
-use Rattle.dl_base.specs.declared.concept.Basic.{Basic}
-use Rattle.dl_base.specs.declared.concept.Basic.TheVariants as basic
+use Rattle.dl_base.specs.Rows.{name_cmp, row_cmp, AreRowsOf, IsIndividual}
 use Rattle.dl_base.specs.declared.row.NamedRow.{NamedRow}
 use Rattle.dl_base.specs.declared.row.NamedRow.TheVariants as row
-use Rattle.dl_base.proofs.RisingLemmas.{nat_same, slice_same, same_rising, placed, placed_rises, placed_adds, contains_cases}
+use Rattle.dl_base.proofs.RisingLemmas.{nat_same, slice_same, same_rising, contains_cases}
 
 -- concept rows come first
 form_of : NamedRow → ℕ
@@ -83,9 +79,6 @@ row_same (row.Role p a b) (row.Role q x y) e =
 pub rows_once : (asserted xs ys : List NamedRow) → AreRowsOf asserted xs → AreRowsOf asserted ys → xs ≡ ys
 rows_once asserted xs ys a b = same_rising row_cmp row_total row_same xs ys a.rising b.rising (λ r c. b.each r (a.only r c)) (λ r c. a.each r (b.only r c))
 
-pub individuals_once : (rows : List NamedRow) (xs ys : List (List ℕ)) → AreIndividuals rows xs → AreIndividuals rows ys → xs ≡ ys
-individuals_once rows xs ys a b = same_rising name_cmp name_total name_same xs ys a.rising b.rising (λ n c. b.each n (a.only n c)) (λ n c. a.each n (b.only n c))
-
 pub contains_cut : {X : Type 0} (xs : List X) (x z : X) → Contains (xs ++ x ∷ []) z → (z ≡ x) ⊎ Contains xs z
 contains_cut [] x z c = elim (contains_cases x [] z c) [ inl e ↦ inl e | inr d ↦ inr d ]
 contains_cut (y ∷ ys) x z c = elim (contains_cases y (ys ++ x ∷ []) z c) [
@@ -96,42 +89,6 @@ contains_cut (y ∷ ys) x z c = elim (contains_cases y (ys ++ x ∷ []) z c) [
 pub none_rising : {X : Type 0} (cmp : X → X → Ordering) → IsStrictlySortedBy cmp []
 unfolding IsStrictlySortedBy
 none_rising cmp = tt
-
--- no rows, where nothing is asserted
-pub rows_none : AreRowsOf [] []
-rows_none = record { rising = none_rising row_cmp; only = λ r c. c; each = λ r c. c }
-
--- the rows with one more
-pub rows_more : (asserted rows : List NamedRow) (r : NamedRow) → AreRowsOf asserted rows → AreRowsOf (asserted ++ r ∷ []) (placed row_cmp row_total row_same r rows)
-rows_more asserted rows r are =
-    let adds = placed_adds row_cmp row_total row_same r rows in
-    record {
-      rising = placed_rises row_cmp row_total row_same r rows are.rising;
-      only = λ x c. elim (adds.each x c) [
-        | inl e ↦ subst (Contains (asserted ++ r ∷ [])) (sym e) (Contains-push asserted r)
-        | inr d ↦ Contains-append_left asserted (r ∷ []) x (are.only x d)
-      ];
-      each = λ x c. elim (contains_cut asserted r x c) [
-        | inl e ↦ subst (Contains (placed row_cmp row_total row_same r rows)) (sym e) adds.there
-        | inr d ↦ adds.stays x (are.each x d)
-      ];
-    }
-
--- a row that was there already
-pub rows_again : (asserted rows : List NamedRow) (r : NamedRow) → AreRowsOf asserted rows → Contains asserted r → AreRowsOf (asserted ++ r ∷ []) rows
-rows_again asserted rows r are there = record {
-  rising = are.rising;
-  only = λ x c. Contains-append_left asserted (r ∷ []) x (are.only x c);
-  each = λ x c. elim (contains_cut asserted r x c) [
-    | inl e ↦ are.each x (subst (Contains asserted) (sym e) there)
-    | inr d ↦ are.each x d
-  ];
-}
-
--- what the same rows say is the same
-pub held_through : (o : Terminology) (few many : List NamedRow) → ((r : NamedRow) → Contains few r → Contains many r) → (a : List ℕ) (b : Basic) → Held o few a b → Held o many a b
-held_through o few many into a (basic.Concept c) h = record { name = h.name; named = h.named; there = into (row.Concept h.name a) h.there }
-held_through o few many into a (basic.Exists r) (b, h) = (b, record { name = h.name; named = h.named; there = into (row_of h.name r.inverse a b) h.there })
 
 pub individual_through : (few many : List NamedRow) → ((r : NamedRow) → Contains few r → Contains many r) → (a : List ℕ) → IsIndividual few a → IsIndividual many a
 individual_through few many into a (r, there, names) = (r, into r there, names)

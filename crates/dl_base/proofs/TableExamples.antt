@@ -1,6 +1,6 @@
 -- Small completed tables.
-use Rattle.std.proofs.Common.{◌≡◌, ℕ, List, [], ◌∷◌, Contains, refl, subst, codes, arith, false, inl, inr, Some}
-use Rattle.dl_base.specs.Laws.{successors, WitnessStands, NoWitnessBeside}
+use Rattle.std.proofs.Common.{◌≡◌, ℕ, List, [], ◌∷◌, Contains, refl, sym, ◌∙◌, ap, subst, codes, arith, false, inl, inr, Some, true≢false}
+use Rattle.dl_base.specs.Laws.{successors, WitnessStands, NoWitnessBeside, predecessors, InverseWitnessLeads, implies, direct_at, inverted_at, PointsToItself}
 use Rattle.dl_base.specs.Derivation.{leaf, node, none, each}
 use Rattle.dl_base.specs.Rows.{HasRow}
 use Rattle.dl_base.specs.Completion.{Individual, WitnessOf, Node, IndividualPoints, RoleLeads, Represents}
@@ -66,3 +66,41 @@ no_leading (WitnessOf s) y f t leads = f
 pub no_witness_beside : NoWitnessBeside
 unfolding beside r
 no_witness_beside row = no_leading row.from row.to row.from_is row.to_is row.leads
+
+-- ---- the witness of an inverse role
+
+points_back : IndividualPoints predecessors alone (codes "a") (inverted_at 0)
+unfolding alone
+points_back = record {
+  individual = (row.Concept (codes "A") (codes "a"), first_item _ [], refl);
+  derived = node (implies (basic.Concept 0) (head.Basic (basic.Exists (inverted_at 0)))) (first_item _ []) refl
+      (each (leaf (record { name = codes "A"; named = refl; there = first_item _ [] })) none);
+  no_row = λ b row. no_role row.name b (codes "a") row.there;
+}
+
+not_to_inverse : (x y : Node) → Represents (codes "a" ∷ []) (λ r. 1) (elem.Named 0) x → Represents (codes "a" ∷ []) (λ r. 1) (elem.Shared (record { role = inverted_at 0; generation = 1 })) y
+    → RoleLeads predecessors alone 0 x y → ⊥
+not_to_inverse (Individual a) (WitnessOf s) f t (inl base) = let e = base.to_is in cc
+not_to_inverse (Individual a) (WitnessOf s) f t (inr (inl found)) = let e = t.0 in let g = found.0 in other s e g
+  where
+    other : (s : Role) → inverted_at 0 ≡ s → WitnessOf s ≡ WitnessOf (direct_at 0) → ⊥
+    other s e g = true≢false (ap (λ (r : Role). r.inverse) (e ∙ same s (direct_at 0) g))
+      where
+        same : (s r : Role) → WitnessOf s ≡ WitnessOf r → s ≡ r
+        same s r h = cc
+not_to_inverse (Individual a) (WitnessOf s) f t (inr (inr back)) = let e = back.0 in cc
+not_to_inverse (Individual a) (Individual b) f t leads = t
+not_to_inverse (WitnessOf s) y f t leads = f
+
+pub inverse_witness_leads : InverseWitnessLeads
+unfolding alone
+inverse_witness_leads = (
+  record { from = WitnessOf (inverted_at 0); to = Individual (codes "a"); from_is = (refl, refl); to_is = refl; leads = inr (inr (refl, points_back)) },
+  λ row. not_to_inverse row.from row.to row.from_is row.to_is row.leads,
+)
+
+pub points_to_itself : PointsToItself
+points_to_itself = record {
+  derived = node (implies (basic.Exists (inverted_at 0)) (head.Basic (basic.Exists (direct_at 0)))) (first_item _ []) refl (each (leaf refl) none);
+  not_back = λ e. true≢false (sym (ap (λ (r : Role). r.inverse) e));
+}

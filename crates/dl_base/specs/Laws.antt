@@ -1,15 +1,18 @@
 -- Laws of the definitions, and small bases that show what they say.
-use Rattle.std.specs.Prelude.{◌≡◌, ℕ, List, [], ◌∷◌, codes, Contains, false}
+use Rattle.std.specs.Prelude.{◌≡◌, ℕ, List, [], ◌∷◌, codes, Contains, false, true, Option, Some}
 use Rattle.dl_base.specs.Tables.{RoleRow}
-use Rattle.dl_base.specs.Completion.{IsCompletedRow}
-use Rattle.dl_base.specs.Ontology.{Terminology}
-use Rattle.dl_base.specs.Derivation.{Derives}
+use Rattle.dl_base.specs.Completion.{IsCompletedRow, RolePoints}
+use Rattle.dl_base.specs.Ontology.{Terminology, IsTerminology}
+use Rattle.dl_base.specs.Derivation.{Derives, inverse}
 use Rattle.dl_base.specs.Query.{Question}
-use Rattle.dl_base.specs.Unfolding.{Element, Next, Exists}
+use Rattle.dl_base.specs.Unfolding.{Element, Named, Next, Exists}
 use Rattle.dl_base.specs.Answers.{IsCertain, AreAnswers}
+use Rattle.dl_base.specs.Clashes.{Place, IsFirstClash}
+use Rattle.dl_base.specs.Replies.{Replied, Inconsistent, IsReply}
 use Rattle.dl_base.specs.declared.concept.Role.{Role}
 use Rattle.dl_base.specs.declared.concept.Basic.{Basic}
 use Rattle.dl_base.specs.declared.concept.Basic.TheVariants as basic
+use Rattle.dl_base.specs.declared.concept.Head.{Head}
 use Rattle.dl_base.specs.declared.concept.Head.TheVariants as head
 use Rattle.dl_base.specs.declared.concept.Inclusion.{Inclusion}
 use Rattle.dl_base.specs.declared.element.Elem.{Elem}
@@ -39,6 +42,20 @@ ExistsBefore = (o : Terminology) (rows : List NamedRow) (e : Element) (r : Role)
 abbrev pub AnswersOnce : Type 0
 AnswersOnce = (o : Terminology) (rows : List NamedRow) (q : Question) (keys others : List (List (List ℕ)))
     → AreAnswers o rows q keys → AreAnswers o rows q others → keys ≡ others
+
+-- the first clash of a base is one and no other, or there is none
+abbrev pub FirstClashOnce : Type 0
+FirstClashOnce = (o : Terminology) (rows : List NamedRow) (c d : Option Place)
+    → IsTerminology o → IsFirstClash o rows c → IsFirstClash o rows d → c ≡ d
+
+-- a base replies one thing to a query
+abbrev pub RepliesOnce : Type 0
+RepliesOnce = (o : Terminology) (rows : List NamedRow) (q : Question) (reply other : Replied)
+    → IsTerminology o → IsReply o rows q reply → IsReply o rows q other → reply ≡ other
+
+-- no role points back along itself
+abbrev pub NoWayBack : Type 0
+NoWayBack = (o : Terminology) (r : Role) → RolePoints o r (inverse r) → ⊥
 
 -- professors are staff
 abbrev pub staff : Terminology
@@ -85,3 +102,77 @@ WitnessStands = IsCompletedRow successors (row.Concept (codes "A") (codes "a") �
 abbrev pub NoWitnessBeside : Type 0
 NoWitnessBeside = IsCompletedRow successors (row.Concept (codes "A") (codes "a") ∷ row.Role (codes "r") (codes "a") (codes "b") ∷ [])
     (codes "a" ∷ codes "b" ∷ []) (λ r. 1) (RoleRow 0 (elem.Named 0) witness_of_r) → ⊥
+
+-- the role name at a place, and its inverse
+abbrev pub direct_at : ℕ → Role
+direct_at p = record { name = p; inverse = false }
+
+abbrev pub inverted_at : ℕ → Role
+inverted_at p = record { name = p; inverse = true }
+
+abbrev pub implies : Basic → Head → Inclusion
+implies b h = record { body = b ∷ []; head = h }
+
+-- whatever is in A has a successor by the inverse of r
+abbrev pub predecessors : Terminology
+predecessors = record {
+  concepts = codes "A" ∷ [];
+  roles = codes "r" ∷ [];
+  inclusions = implies (basic.Concept 0) (head.Basic (basic.Exists (inverted_at 0))) ∷ [];
+}
+
+-- the witness of the inverse of r in its first generation
+abbrev pub witness_of_inverse : Elem
+witness_of_inverse = elem.Shared (record { role = inverted_at 0; generation = 1 })
+
+-- a is in A, so r leads from that witness to a in the completed tables, and not from a to it
+abbrev pub InverseWitnessLeads : Type 0
+InverseWitnessLeads = IsCompletedRow predecessors (row.Concept (codes "A") (codes "a") ∷ []) (codes "a" ∷ []) (λ r. 1) (RoleRow 0 witness_of_inverse (elem.Named 0))
+    × (IsCompletedRow predecessors (row.Concept (codes "A") (codes "a") ∷ []) (codes "a" ∷ []) (λ r. 1) (RoleRow 0 (elem.Named 0) witness_of_inverse) → ⊥)
+
+-- whatever r leads to has a successor by r
+abbrev pub endless : Terminology
+endless = record {
+  concepts = [];
+  roles = codes "r" ∷ [];
+  inclusions = implies (basic.Exists (inverted_at 0)) (head.Basic (basic.Exists (direct_at 0))) ∷ [];
+}
+
+-- so the role points to itself
+abbrev pub PointsToItself : Type 0
+PointsToItself = RolePoints endless (direct_at 0) (direct_at 0)
+
+-- Whatever is in A has a successor by p and one by q. Behind p there is one by s, and one by p again, and so on without an end; behind
+-- q there is one by r. But nothing may be behind r, nor behind s, which is said twice; and nothing may be in B.
+abbrev pub clashing : Terminology
+clashing = record {
+  concepts = codes "A" ∷ codes "B" ∷ [];
+  roles = codes "s" ∷ codes "q" ∷ codes "p" ∷ codes "r" ∷ [];
+  inclusions = implies (basic.Concept 0) (head.Basic (basic.Exists (direct_at 2)))
+      ∷ implies (basic.Concept 0) (head.Basic (basic.Exists (direct_at 1)))
+      ∷ implies (basic.Exists (inverted_at 2)) (head.Basic (basic.Exists (direct_at 0)))
+      ∷ implies (basic.Exists (inverted_at 2)) (head.Basic (basic.Exists (direct_at 2)))
+      ∷ implies (basic.Exists (inverted_at 1)) (head.Basic (basic.Exists (direct_at 3)))
+      ∷ implies (basic.Exists (inverted_at 3)) head.Nothing
+      ∷ implies (basic.Exists (inverted_at 0)) head.Nothing
+      ∷ implies (basic.Exists (inverted_at 0)) head.Nothing
+      ∷ implies (basic.Concept 1) head.Nothing
+      ∷ [];
+}
+
+-- a is in A, and b in B
+abbrev pub a_and_b : List NamedRow
+a_and_b = row.Concept (codes "A") (codes "a") ∷ row.Concept (codes "B") (codes "b") ∷ []
+
+-- behind a by p and s, by the first inclusion that says so
+abbrev pub first_of_all : Place
+first_of_all = record { element = Next (Next (Named (codes "a")) (direct_at 2)) (direct_at 0); inclusion = 7 }
+
+-- That is the first clash. That at b has a shorter list and is behind it by name; those by p, p and s, by p, p, p and s, and so on are behind it by
+-- length; that by q and r is behind it by role order; and that of the same element by inclusion 8 is behind it by number.
+abbrev pub ClashesInOrder : Type 0
+ClashesInOrder = IsFirstClash clashing a_and_b (Some first_of_all)
+
+-- so it is what the base replies, whatever is asked
+abbrev pub RepliesClash : Type 0
+RepliesClash = (q : Question) → IsReply clashing a_and_b q (Inconsistent first_of_all)

@@ -38,6 +38,10 @@ variable = do
   literal (codes "?")
   bare 254
 
+-- the name of a variable, which follows its `?`
+abbrev pub IsVariableName : List ℕ → Type 0
+IsVariableName text = IsBare text × (length text ≤ 254)
+
 abbrev pub IsName : List ℕ → Type 0
 IsName text = Contains name text
 

@@ -1,6 +1,7 @@
 -- Conjunctive queries.
 use Rattle.std.specs.Prelude.{ℕ, ◌≤◌, List, [], ◌∷◌, length, All, Contains}
 use Rattle.std.specs.List.{flat_map}
+use Rattle.dl_base.specs.Names.{IsVariableName}
 use Rattle.dl_base.specs.declared.query.Term.{Term}
 use Rattle.dl_base.specs.declared.query.Term.TheVariants as term
 use Rattle.dl_base.specs.declared.query.Atom.{Atom}
@@ -26,10 +27,15 @@ pub record HasFewTerms (q : Question) (most : ℕ) : Type 0 where
   pub count : length few ≤ most
   pub each : All (Contains few) (terms q)
 
--- 1 to 24 atoms, at most 24 answer places and 24 distinct terms, and each answer variable is in an atom
+-- each variable has a bare name of at most 254 bytes
+abbrev pub HasBareVariables : Question → Type 0
+HasBareVariables q = (v : List ℕ) → Contains (terms q) (term.Var v) → IsVariableName v
+
+-- 1 to 24 atoms, at most 24 answer places and 24 distinct terms, each answer variable is in an atom, and variables are bare
 pub record IsQuery (q : Question) : Type 0 where
   pub some : 1 ≤ length q.atoms
   pub atoms : length q.atoms ≤ 24
   pub answers : length q.answers ≤ 24
   pub distinct : HasFewTerms q 24
   pub safe : All (λ v. Contains (terms q) (term.Var v)) q.answers
+  pub variables : HasBareVariables q

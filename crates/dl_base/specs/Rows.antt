@@ -9,6 +9,8 @@ use Rattle.dl_base.specs.Ontology.{Terminology}
 use Rattle.dl_base.specs.declared.concept.Role.{Role}
 use Rattle.dl_base.specs.declared.concept.Basic.{Basic}
 use Rattle.dl_base.specs.declared.concept.Basic.TheVariants as basic
+use Rattle.dl_base.specs.declared.row.Row.{Row}
+use Rattle.dl_base.specs.declared.row.Row.TheVariants as numbered
 use Rattle.dl_base.specs.declared.row.NamedRow.{NamedRow}
 use Rattle.dl_base.specs.declared.row.NamedRow.TheVariants as row
 
@@ -22,6 +24,13 @@ row_cmp (row.Concept c a) (row.Concept d b) = ordering_then (name_cmp c d) (name
 row_cmp (row.Concept c a) (row.Role q x y) = Less
 row_cmp (row.Role p a b) (row.Concept d x) = Greater
 row_cmp (row.Role p a b) (row.Role q x y) = ordering_then (name_cmp p q) (ordering_then (name_cmp a x) (name_cmp b y))
+
+-- rows by numbers: concept rows before role rows, then by their numbers from left to right
+abbrev pub numbered_row_cmp : Row → Row → Ordering
+numbered_row_cmp (numbered.Concept c a) (numbered.Concept d b) = ordering_then (nat_cmp c d) (nat_cmp a b)
+numbered_row_cmp (numbered.Concept c a) (numbered.Role q x y) = Less
+numbered_row_cmp (numbered.Role p a b) (numbered.Concept d x) = Greater
+numbered_row_cmp (numbered.Role p a b) (numbered.Role q x y) = ordering_then (nat_cmp p q) (ordering_then (nat_cmp a x) (nat_cmp b y))
 
 -- the rows of a base are a strictly rising list
 abbrev pub AreRows : List NamedRow → Type 0

@@ -30,4 +30,6 @@ pub use sets::{BasicSet, PLACES, RoleSet, place};
 pub use tables::Tables;
 
 #[cfg(test)]
+mod copy_tests;
+#[cfg(test)]
 mod name_tests;

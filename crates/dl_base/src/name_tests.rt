@@ -13,59 +13,29 @@ fn place(alloc: Global, text: &[u8]) -> Result<Option<u64>, AllocError> {
     }
 }
 
+/// Texts, each with the place at which it is no name, or nothing where it is one.
+const TEXTS: [(&[u8], Option<u64>); 16] = [
+    (b"Z9", None),
+    (b"a-b.c_d", None),
+    (b"nothings", None),
+    (b"<And>", None),
+    (b"<\xff\x80>", None),
+    (b"", Some(0)),
+    (b"nothing", Some(7)),
+    (b"Some(", Some(4)),
+    (b"1a", Some(0)),
+    (b"?x", Some(0)),
+    (b"a\xc3\xa9", Some(1)),
+    (b"a<", Some(1)),
+    (b"<>", Some(1)),
+    (b"<a", Some(2)),
+    (b"<a\x7fb>", Some(2)),
+    (b"<a>b", Some(3)),
+];
+
 #[test]
 fn names_and_the_places_of_their_faults(rt: HostRuntime) -> Result<(), Fail> {
-    let table: [(&[u8], Option<u64>); 48] = [
-        (b"a", None),
-        (b"_", None),
-        (b"Z9", None),
-        (b"a-b.c_d", None),
-        (b"a--..", None),
-        (b"And-1", None),
-        (b"nothings", None),
-        (b"some", None),
-        (b"AND", None),
-        (b"Inverse", None),
-        (b"_And", None),
-        (b"<a>", None),
-        (b"<And>", None),
-        (b"<?x>", None),
-        (b"<!>", None),
-        (b"<http://example.org/a#b>", None),
-        (b"<\xc3\xa9>", None),
-        (b"<\xff\x80>", None),
-        (b"", Some(0)),
-        (b"nothing", Some(7)),
-        (b"And", Some(3)),
-        (b"Some", Some(4)),
-        (b"Inv", Some(3)),
-        (b"And b", Some(3)),
-        (b"Some(", Some(4)),
-        (b"1a", Some(0)),
-        (b"-a", Some(0)),
-        (b".a", Some(0)),
-        (b" a", Some(0)),
-        (b"?x", Some(0)),
-        (b">a", Some(0)),
-        (b"\0", Some(0)),
-        (b"\xc3\xa9", Some(0)),
-        (b"a\xc3\xa9", Some(1)),
-        (b"a b", Some(1)),
-        (b"a\t", Some(1)),
-        (b"a\0", Some(1)),
-        (b"a<", Some(1)),
-        (b"ab(", Some(2)),
-        (b"<", Some(1)),
-        (b"<>", Some(1)),
-        (b"<<a>", Some(1)),
-        (b"< a>", Some(1)),
-        (b"<a", Some(2)),
-        (b"<a b>", Some(2)),
-        (b"<a\"b>", Some(2)),
-        (b"<a\x7fb>", Some(2)),
-        (b"<a>b", Some(3)),
-    ];
-    for (text, want) in table {
+    for (text, want) in TEXTS {
         assert_eq!(rt; place(rt.alloc(), text)?, want, "at {text:?}");
     }
     Ok(())
@@ -81,19 +51,21 @@ fn filled(alloc: Global, front: &[u8], count: usize, back: &[u8]) -> Result<Vec<
     Ok(text)
 }
 
+/// A front, how many letters, and a back, and the place at which the whole is no name.
+const LENGTHS: [(&[u8], usize, &[u8], Option<u64>); 8] = [
+    (b"", 255, b"", None),
+    (b"", 256, b"", Some(255)),
+    (b"", 255, b" ", Some(255)),
+    (b"", 300, b"", Some(255)),
+    (b"<", 253, b">", None),
+    (b"<", 254, b">", Some(254)),
+    (b"<", 253, b"", Some(254)),
+    (b"<", 253, b">>", Some(255)),
+];
+
 #[test]
 fn names_have_255_bytes_at_most(rt: HostRuntime) -> Result<(), Fail> {
-    let table: [(&[u8], usize, &[u8], Option<u64>); 8] = [
-        (b"", 255, b"", None),
-        (b"", 256, b"", Some(255)),
-        (b"", 255, b" ", Some(255)),
-        (b"", 300, b"", Some(255)),
-        (b"<", 253, b">", None),
-        (b"<", 254, b">", Some(254)),
-        (b"<", 253, b"", Some(254)),
-        (b"<", 253, b">>", Some(255)),
-    ];
-    for (front, count, back, want) in table {
+    for (front, count, back, want) in LENGTHS {
         let text = filled(rt.alloc(), front, count, back)?;
         assert_eq!(rt; place(rt.alloc(), text.as_slice())?, want);
     }

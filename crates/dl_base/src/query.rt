@@ -63,7 +63,7 @@ pub type Vars = Items<Name>;
 pub type Atoms = Items<Atom>;
 
 /// A conjunctive query: 1 to 24 atoms over at most 24 distinct terms, and at most 24 answer places, each of whose
-/// variables is in an atom.
+/// variables is in an atom. Each variable has a bare name of at most 254 bytes.
 #[derive(Debug, Drop)]
 pub struct Query {
     answers: Vars,
@@ -81,7 +81,8 @@ impl Model for Query {
 }
 
 impl Query {
-    /// The query of these lists. It takes no memory.
+    /// The query of these lists. It takes no memory. That they are a query is for the caller to know, which has read
+    /// them from a text or copied them.
     pub fn new(answers: Vars, atoms: Atoms) -> Query
         requires { IsQuery (record { answers = answers; atoms = atoms }) }
         ensures { result ≡ record { answers = answers; atoms = atoms } }

@@ -1,6 +1,6 @@
 //! Rows: what a base asserts of its individuals.
 ghost use Rattle.std.specs.Prelude.{◌≡◌, IfOk};
-ghost use Rattle.dl_base.specs.Rows.{row_cmp};
+ghost use Rattle.dl_base.specs.Rows.{numbered_row_cmp, row_cmp};
 
 use crate::Name;
 use plain_list::Items;
@@ -15,6 +15,15 @@ pub enum Row {
     Concept { concept: u32, individual: u32 },
     /// The role leads from one individual to another.
     Role { role: u32, from: u32, to: u32 },
+}
+
+impl Row {
+    /// How the rows stand to each other in the order of rows by numbers.
+    pub fn compared(&self, other: &Row) -> Ordering
+        ensures { result ≡ numbered_row_cmp self.now other.now }
+    {
+        self.cmp(other)
+    }
 }
 
 /// A row by its names. Rows are ordered with concept rows before role rows, then by their names from left to right.

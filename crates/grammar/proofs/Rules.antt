@@ -5,8 +5,8 @@ use Rattle.std.specs.List.{AllByRecursion}
 use Rattle.grammar.specs.Bytes.{is_blank, is_kind}
 use Rattle.grammar.specs.Blanks.{blanks, some_blanks}
 use Rattle.grammar.specs.Grammar.{Grammar, Sequence, ◌>>=◌, means, ◌∣◌, literal}
-use Rattle.grammar.specs.Reading.{Outcome, and_then, next_is, expect_at, blanks_at, some_blanks_at, ended, whole}
-use Rattle.grammar.proofs.Exact.{Follow, IsExact, Same, exact_then, exact_same, exact_fewer, exact_or, exact_means, exact_ended, MayFollow, Starts, Anything, Nothing, IsValueOf, IsPlaceOf, IsWhole, exact_whole}
+use Rattle.grammar.specs.Reading.{Outcome, and_then, next_is, expect_at, blanks_at, some_blanks_at, whole}
+use Rattle.grammar.proofs.Exact.{Follow, IsExact, Same, exact_then, exact_same, exact_fewer, exact_or, exact_means, MayFollow, Starts, Anything, Nothing, IsValueOf, IsPlaceOf, IsWhole, exact_whole}
 use Rattle.grammar.proofs.Parts.{Stops, exact_literal, exact_bytes_of, exact_some_bytes}
 
 -- some text is in the grammar
@@ -50,6 +50,10 @@ first_then {V} {W} {g} {h} {G} {p} a = record { is = λ t w k s f. ap (λ (x : L
 -- the empty text: what follows it begins so
 pub first_means : {V : Type 0} {v : V} {p : ℕ → Bool} → FirstIs (means v) (Stops p) p false
 first_means {V} {v} {p} = record { is = λ t w k s f. ap (λ (x : List ℕ). next_is p (x ++ k)) s.0 ∙ f }
+
+-- the empty text with nothing behind it
+pub first_nothing : {V : Type 0} {v : V} {p : ℕ → Bool} → FirstIs (means v) Nothing p false
+first_nothing {V} {v} {p} = record { is = λ t w k s f. ap (next_is p) (ap (λ (a : List ℕ). a ++ k) s.0 ∙ f) }
 
 pub first_blanks : {W : Type 0} {h : List ℕ → Grammar W} {G : Follow W} {p : ℕ → Bool} {answer : Bool} → ((c : ℕ) → is_blank c ≡ true → p c ≡ answer) → ((v : List ℕ) → FirstIs (h v) G p answer) → FirstIs (blanks >>= h) G p answer
 first_blanks {W} {h} {G} {p} {answer} apart more = record { is = λ t w k s f. go t w k s f s.front s.met s.in_first refl }
@@ -110,9 +114,6 @@ reads_literal {es} {F} {text} = record { is = exact_literal es F text; some = re
 pub reads_blanks : {text : List ℕ} → Reads blanks (Stops is_blank) text (blanks_at text)
 unfolding blanks_at is_kind
 reads_blanks {text} = record { is = exact_bytes_of is_blank text; some = record { text = []; value = []; is = (tt, refl) } }
-
-pub reads_ended : {V : Type 0} {v : V} {text : List ℕ} → Reads (means v) Nothing text (ended v text)
-reads_ended {V} {v} {text} = record { is = exact_ended v text; some = record { text = []; value = v; is = (refl, refl) } }
 
 pub reads_or : {V : Type 0} {a b : Grammar V} {G : Follow V} {text : List ℕ} {r r' : Outcome V} (p : ℕ → Bool)
     → FirstIs a G p true → FirstIs b G p false → Reads a G text r → Reads b G text r' → Reads (a ∣ b) G text (cond (next_is p text) r r')

@@ -31,11 +31,6 @@ abbrev pub next_is : (ℕ → Bool) → List ℕ → Bool
 next_is p [] = false
 next_is p (c ∷ cs) = p c
 
--- nothing stands behind
-abbrev pub ended : {V : Type 0} → V → List ℕ → Outcome V
-ended v [] = Ok (v, [])
-ended v (c ∷ cs) = Err (length (c ∷ cs))
-
 -- a value with nothing behind it
 abbrev pub whole : {V : Type 0} → Outcome V → Result V ℕ
 whole (Ok (v, [])) = Ok v

@@ -15,7 +15,8 @@ use Rattle.query_shape.specs.declared.layout.ShapeAtom.TheVariants as shape
 use Rattle.join_ops.specs.Joins.{Start, IsFound, AreLeft, AreMatches}
 use Rattle.join_ops.proofs.Rooms.{elems, concept_elem, edge_elems}
 use Rattle.join_ops.proofs.LeftLemmas.{images_total, never_below}
-use Rattle.join_ops.proofs.Decisions.{Decided, is_found}
+use Rattle.query_shape.proofs.MatchList.{Decided}
+use Rattle.join_ops.proofs.Decisions.{is_found}
 
 -- the strictly rising list of these
 record Lists (P : List Elem → Type 0) (all : List (List Elem)) : Type 0 where

@@ -11,8 +11,8 @@ use Rattle.dl_base.proofs.ElemLemmas.{elem_total}
 use Rattle.dl_base.proofs.RisingLemmas.{contains_cases, contains_first, contains_later, all_contains}
 use Rattle.dl_base.proofs.RowLemmas.{none_rising}
 use Rattle.query_shape.specs.declared.layout.ShapeAtom.{ShapeAtom}
-use Rattle.join_ops.specs.Joins.{Place, Start, Behind, End, IsFound, IsBehind, AreLeft, IsNext, Advances}
-use Rattle.join_ops.specs.Levels.{Finds, IsLast, IsLeast, place_of}
+use Rattle.join_ops.specs.Joins.{SearchPlace, Start, Behind, End, IsFound, IsBehind, AreLeft, IsNext, Advances}
+use Rattle.join_ops.specs.Levels.{Finds, IsLast, IsLeast, place_at}
 use Rattle.join_ops.specs.declared.search.At.{At}
 use Rattle.join_ops.specs.declared.search.At.TheVariants as at
 
@@ -25,12 +25,12 @@ never_below x less = let self : slice_cmp elem_cmp x x ≡ Equal = tied_itself i
 less_through : (x y z : List Elem) → slice_cmp elem_cmp x y ≡ Less → slice_cmp elem_cmp y z ≡ Less → slice_cmp elem_cmp x z ≡ Less
 less_through x y z e f = images_total.trans x y z e f
 
-behind_through : (place : Place) (x y : List Elem) → IsBehind place x → slice_cmp elem_cmp x y ≡ Less → IsBehind place y
+behind_through : (place : SearchPlace) (x y : List Elem) → IsBehind place x → slice_cmp elem_cmp x y ≡ Less → IsBehind place y
 behind_through Start x y h less = tt
 behind_through (Behind last) x y h less = less_through last x y h less
 behind_through End x y h less = absurd h
 
-module _ (table : List TableRow) (atoms : List ShapeAtom) (fixed : List (Option ℕ)) (place : Place) where
+module _ (table : List TableRow) (atoms : List ShapeAtom) (fixed : List (Option ℕ)) (place : SearchPlace) where
   none_left : (left : List (List Elem)) → AreLeft table (record { atoms = atoms; fixed = fixed; place = place }) left
       → ((others : List Elem) → IsFound table atoms fixed others → IsBehind place others → ⊥)
       → (left ≡ []) × AreLeft table (record { atoms = atoms; fixed = fixed; place = End }) []
@@ -91,19 +91,19 @@ module _ (table : List TableRow) (atoms : List ShapeAtom) (fixed : List (Option 
 
   found_left : (left : List (List Elem)) (found : Bool) (images : List Elem) (after : At) → AreLeft table (record { atoms = atoms; fixed = fixed; place = place }) left
       → Finds table atoms fixed place found images → ((found ≡ true) × (after ≡ at.Behind)) ⊎ ((found ≡ false) × (after ≡ at.End))
-      → Advances table left found (record { atoms = atoms; fixed = fixed; place = place_of after images })
+      → Advances table left found (record { atoms = atoms; fixed = fixed; place = place_at after images })
   found_left left true images after are finds (inl is) =
-      subst (λ (a : At). IsNext table left (record { atoms = atoms; fixed = fixed; place = place_of a images })) (sym is.1) (next_left left images are finds)
+      subst (λ (a : At). IsNext table left (record { atoms = atoms; fixed = fixed; place = place_at a images })) (sym is.1) (next_left left images are finds)
   found_left left true images after are finds (inr is) = absurd (let e = is.0 in cc)
   found_left left false images after are finds (inl is) = absurd (let e = is.0 in cc)
   found_left left false images after are finds (inr is) =
       let none = none_left left are finds in
-      (none.0, subst (λ (a : At). AreLeft table (record { atoms = atoms; fixed = fixed; place = place_of a images }) []) (sym is.1) none.1)
+      (none.0, subst (λ (a : At). AreLeft table (record { atoms = atoms; fixed = fixed; place = place_at a images }) []) (sym is.1) none.1)
 
 -- what an answer of the search says of what is left
 pub advances : (table : List TableRow) (atoms : List ShapeAtom) (fixed : List (Option ℕ)) (before after : At) (old new : List Elem) (left : List (List Elem)) (found : Bool)
-    → AreLeft table (record { atoms = atoms; fixed = fixed; place = place_of before old }) left
-    → (IsLast table atoms fixed (place_of before old) → Finds table atoms fixed (place_of before old) found new)
+    → AreLeft table (record { atoms = atoms; fixed = fixed; place = place_at before old }) left
+    → (IsLast table atoms fixed (place_at before old) → Finds table atoms fixed (place_at before old) found new)
     → ((found ≡ true) × (after ≡ at.Behind)) ⊎ ((found ≡ false) × (after ≡ at.End))
-    → Advances table left found (record { atoms = atoms; fixed = fixed; place = place_of after new })
-advances table atoms fixed before after old new left found are finds is = found_left table atoms fixed (place_of before old) left found new after are (finds are.last) is
+    → Advances table left found (record { atoms = atoms; fixed = fixed; place = place_at after new })
+advances table atoms fixed before after old new left found are finds is = found_left table atoms fixed (place_at before old) left found new after are (finds are.last) is

@@ -6,11 +6,12 @@ use Rattle.std.specs.declared.cmp.Ordering.TheVariants.{Greater}
 use Rattle.dl_base.specs.Tables.{TableRow, IsAbove, IsLeastAbove, elem_cmp}
 use Rattle.dl_base.specs.declared.element.Elem.{Elem}
 use Rattle.dl_base.specs.declared.element.Elem.TheVariants as elem
+use Rattle.dl_base.proofs.PlaceLemmas.{place_stays}
 use Rattle.query_shape.specs.Shape.{HoldsAt, IsBelow}
 use Rattle.query_shape.specs.declared.layout.ShapeAtom.{ShapeAtom}
 use Rattle.query_shape.specs.declared.layout.ShapeAtom.TheVariants as shape
-use Rattle.join_ops.specs.Joins.{Place, Start, Behind, IsFound, IsBehind}
-use Rattle.join_ops.specs.Levels.{fixed_of, Offers, IsWithin, IsSource, AreSources, Fits, IsBeyond, IsFront, IsAt, IsLeast}
+use Rattle.join_ops.specs.Joins.{SearchPlace, Start, Behind, IsFound, IsBehind}
+use Rattle.join_ops.specs.Levels.{fixed_of, Offers, IsFromFront, IsSource, AreSources, Fits, IsBeyond, IsFront, IsAt, IsLeast}
 use Rattle.join_ops.specs.declared.source.Source.{Source}
 use Rattle.join_ops.specs.declared.source.Source.TheVariants as source
 use Rattle.join_ops.proofs.Beyond.{deeper_beyond, deeper_within, back_beyond, back_within, last_least, last_beyond, behind_beyond, beyond_behind}
@@ -20,11 +21,6 @@ pub get_front : {X : Type 0} (xs ys : List X) (k : ℕ) → k < length xs → sl
 get_front [] ys k below = absurd (omega arith)
 get_front (x ∷ xs) ys zero below = refl
 get_front (x ∷ xs) ys (suc k) below = get_front xs ys k (omega arith)
-
-pub get_more : {X : Type 0} (xs ys : List X) (k : ℕ) (x : X) → slice_get xs k ≡ Some x → slice_get (xs ++ ys) k ≡ Some x
-get_more [] ys k x at = absurd cc
-get_more (y ∷ xs) ys zero x at = at
-get_more (y ∷ xs) ys (suc k) x at = get_more xs ys k x at
 
 pub get_at : {X : Type 0} (xs : List X) (x : X) (ys : List X) → slice_get (xs ++ x ∷ ys) (length xs) ≡ Some x
 get_at [] x ys = refl
@@ -39,14 +35,14 @@ holds_front table xs ys (shape.Concept c n) below h = (h.0, sym (get_front xs ys
 holds_front table xs ys (shape.Role r n m) below h = (h.0, h.1, sym (get_front xs ys n below.0) ∙ h.2, sym (get_front xs ys m below.1) ∙ h.3, h.4)
 
 pub holds_more : (table : List TableRow) (xs ys : List Elem) (a : ShapeAtom) → HoldsAt table xs a → HoldsAt table (xs ++ ys) a
-holds_more table xs ys (shape.Concept c n) h = (h.0, get_more xs ys n h.0 h.1, h.2)
-holds_more table xs ys (shape.Role r n m) h = (h.0, h.1, get_more xs ys n h.0 h.2, get_more xs ys m h.1 h.3, h.4)
+holds_more table xs ys (shape.Concept c n) h = (h.0, place_stays xs ys n h.0 h.1, h.2)
+holds_more table xs ys (shape.Role r n m) h = (h.0, h.1, place_stays xs ys n h.0 h.2, place_stays xs ys m h.1 h.3, h.4)
 
 below_more : (k j : ℕ) (a : ShapeAtom) → k ≤ j → IsBelow k a → IsBelow j a
 below_more k j (shape.Concept c n) more below = omega arith
 below_more k j (shape.Role r n m) more below = (omega (arith, below.0), omega (arith, below.1))
 
-offers_front : (table : List TableRow) (s : Source) (front ys : List Elem) (e : Elem) → IsWithin (length front) s → Offers table s (front ++ ys) e → Offers table s front e
+offers_front : (table : List TableRow) (s : Source) (front ys : List Elem) (e : Elem) → IsFromFront (length front) s → Offers table s (front ++ ys) e → Offers table s front e
 offers_front table (source.Named n) front ys e within h = h
 offers_front table (source.Concept c) front ys e within h = h
 offers_front table (source.Outgoing r) front ys e within h = h
@@ -130,7 +126,7 @@ module _ (table : List TableRow) (atoms : List ShapeAtom) (sources : List Source
       term k n below fixed = by (last_or k (length front) below)
         where
           by : (k < length front) ⊎ (length front ≡ k) → slice_get (front ++ e ∷ []) k ≡ Some (elem.Named n)
-          by (inl less) = get_more front (e ∷ []) k (elem.Named n) (is.fixed_are k n less fixed)
+          by (inl less) = place_stays front (e ∷ []) k (elem.Named n) (is.fixed_are k n less fixed)
           by (inr same) =
               let there : slice_get (map fixed_of sources) (length front) ≡ Some (Some n) = ap (λ (j : ℕ). slice_get (map fixed_of sources) j) same ∙ fixed in
               let known = fixed_at sources (length front) s at in
@@ -155,7 +151,7 @@ module _ (table : List TableRow) (atoms : List ShapeAtom) (sources : List Source
   not_above front after e s images at least found m rest same over greater =
       least.2 m (match_fits front m rest s at (subst (IsFound table atoms (map fixed_of sources)) same found)) over greater
 
-  pub goes_deeper : (place : Place) (front : List Elem) (after : Option Elem) (e : Elem) (s : Source) → slice_get sources (length front) ≡ Some s
+  pub goes_deeper : (place : SearchPlace) (front : List Elem) (after : Option Elem) (e : Elem) (s : Source) → slice_get sources (length front) ≡ Some s
       → suc (suc (length front)) ≤ length sources → IsLeastAbove (Fits table atoms s front) after (Some e)
       → IsAt table atoms (map fixed_of sources) place front after → IsAt table atoms (map fixed_of sources) place (front ++ e ∷ []) None
   goes_deeper place front after e s at more least is = record {
@@ -164,7 +160,7 @@ module _ (table : List TableRow) (atoms : List ShapeAtom) (sources : List Source
     behind = λ images count over. is.behind images count (deeper_within front after e images least.1 over);
   }
 
-  pub goes_back : (place : Place) (front : List Elem) (a : Elem) (after : Option Elem) (s : Source) → slice_get sources (length (front ++ a ∷ [])) ≡ Some s
+  pub goes_back : (place : SearchPlace) (front : List Elem) (a : Elem) (after : Option Elem) (s : Source) → slice_get sources (length (front ++ a ∷ [])) ≡ Some s
       → IsLeastAbove (Fits table atoms s (front ++ a ∷ [])) after None
       → IsAt table atoms (map fixed_of sources) place (front ++ a ∷ []) after → IsAt table atoms (map fixed_of sources) place front (Some a)
   goes_back place front a after s at none is = record {
@@ -182,7 +178,7 @@ module _ (table : List TableRow) (atoms : List ShapeAtom) (sources : List Source
     fixed_are = λ k n fixed. is.fixed_are k n (let within = slice_get_within (map fixed_of sources) k (Some n) fixed in omega (arith, within, count, sources_long sources)) fixed;
   }
 
-  pub gives_least : (place : Place) (front : List Elem) (after : Option Elem) (e : Elem) (s : Source) → slice_get sources (length front) ≡ Some s
+  pub gives_least : (place : SearchPlace) (front : List Elem) (after : Option Elem) (e : Elem) (s : Source) → slice_get sources (length front) ≡ Some s
       → suc (length front) ≡ length sources → ((a : ShapeAtom) → Contains atoms a → IsBelow (length sources) a)
       → IsLeastAbove (Fits table atoms s front) after (Some e)
       → IsAt table atoms (map fixed_of sources) place front after → IsLeast table atoms (map fixed_of sources) place (front ++ e ∷ [])
@@ -194,7 +190,7 @@ module _ (table : List TableRow) (atoms : List ShapeAtom) (sources : List Source
         least = λ others found behind. last_least front after e others (is.beyond others found behind) (not_above front after e s others at least found) (long others found ∙ sym count);
       }
 
-  pub gives_none : (place : Place) (after : Option Elem) (s : Source) → slice_get sources 0 ≡ Some s → IsLeastAbove (Fits table atoms s []) after None
+  pub gives_none : (place : SearchPlace) (after : Option Elem) (s : Source) → slice_get sources 0 ≡ Some s → IsLeastAbove (Fits table atoms s []) after None
       → IsAt table atoms (map fixed_of sources) place [] after
       → (others : List Elem) → IsFound table atoms (map fixed_of sources) others → IsBehind place others → ⊥
   gives_none place after s at none is [] found behind = is.beyond [] found behind

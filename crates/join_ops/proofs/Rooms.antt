@@ -3,6 +3,7 @@ use Rattle.std.proofs.Common.{◌≡◌, ◌≤◌, ◌+◌, ℕ, zero, suc, ◌
 use Rattle.std.specs.declared.cmp.Ordering.{Ordering}
 use Rattle.std.specs.declared.cmp.Ordering.TheVariants.{Less, Equal, Greater}
 use Rattle.std.proofs.lemmas.Cmp.{tied_itself}
+use Rattle.std.proofs.lemmas.List.Elements.{Contains-append_right}
 use Rattle.dl_base.specs.Tables.{TableRow, ConceptRow, RoleRow, edge_row, turned_row, IsAbove, elem_cmp}
 use Rattle.dl_base.specs.declared.concept.Role.{Role}
 use Rattle.dl_base.specs.declared.element.Elem.{Elem}
@@ -12,18 +13,6 @@ use Rattle.dl_base.proofs.RisingLemmas.{contains_cases, contains_later, contains
 use Rattle.join_ops.specs.Levels.{Offers}
 use Rattle.join_ops.specs.declared.source.Source.{Source}
 use Rattle.join_ops.specs.declared.source.Source.TheVariants as source
-
-pub contains_front : {X : Type 0} (xs ys : List X) (x : X) → Contains xs x → Contains (xs ++ ys) x
-contains_front [] ys x c = absurd (omega arith)
-contains_front (y ∷ rest) ys x c = by (contains_cases y rest x c) (contains_front rest ys x)
-  where
-    by : (x ≡ y) ⊎ Contains rest x → (Contains rest x → Contains (rest ++ ys) x) → Contains (y ∷ (rest ++ ys)) x
-    by (inl e) more = subst (λ z. Contains (z ∷ (rest ++ ys)) x) e (contains_first x (rest ++ ys))
-    by (inr d) more = contains_later y (rest ++ ys) x (more d)
-
-pub contains_back : {X : Type 0} (xs ys : List X) (x : X) → Contains ys x → Contains (xs ++ ys) x
-contains_back [] ys x c = c
-contains_back (y ∷ rest) ys x c = contains_later y (rest ++ ys) x (contains_back rest ys x c)
 
 -- the elements of rows
 pub elems : List TableRow → List Elem
@@ -100,7 +89,7 @@ pub known_all : List TableRow → List Source → List Elem
 known_all rows sources = named_all sources ++ elems rows
 
 widen : (xs ys zs : List Elem) (e : Elem) → Contains (xs ++ zs) e → Contains ((xs ++ ys) ++ zs) e
-widen [] ys zs e h = contains_back ys zs e h
+widen [] ys zs e h = Contains-append_right ys zs e h
 widen (x ∷ xs) ys zs e h = by (contains_cases x (xs ++ zs) e h) (widen xs ys zs e)
   where
     by : (e ≡ x) ⊎ Contains (xs ++ zs) e → (Contains (xs ++ zs) e → Contains ((xs ++ ys) ++ zs) e) → Contains (x ∷ ((xs ++ ys) ++ zs)) e
@@ -116,7 +105,7 @@ named_more (t ∷ sources) zero s rest e at h =
     subst P (sym same) (widen (named_by s) (named_all sources) rest e h)
 named_more (t ∷ sources) (suc k) s rest e at h =
     let later = named_more sources k s rest e at h in
-    rw append_assoc (contains_back (named_by t) (named_all sources ++ rest) e later)
+    rw append_assoc (Contains-append_right (named_by t) (named_all sources ++ rest) e later)
 
 known_is : (rows : List TableRow) (s : Source) (e : Elem) → Contains (known_by rows s) e → Contains (named_by s ++ elems rows) e
 unfolding known_by
@@ -186,11 +175,6 @@ pub room_falls : (known : List Elem) (after : Option Elem) (e : Elem) → IsAbov
 unfolding room
 room_falls known None e h c = omega (arith, above_most known e)
 room_falls known (Some a) e h c = above_falls known a e h c
-
-pub room_most : (known : List Elem) (after : Option Elem) → room known after ≤ suc (length known)
-unfolding room
-room_most known None = omega arith
-room_most known (Some a) = omega (arith, above_most known a)
 
 pub room_none : (known : List Elem) → room known None ≡ suc (length known)
 unfolding room

@@ -7,7 +7,7 @@ use Rattle.std.proofs.lemmas.Option.{slice_get-get_or}
 use Rattle.dl_base.specs.Tables.{TableRow, IsLeastAbove}
 use Rattle.dl_base.specs.declared.element.Elem.{Elem}
 use Rattle.query_shape.specs.declared.layout.ShapeAtom.{ShapeAtom}
-use Rattle.join_ops.specs.Joins.{Place, Start, Behind, IsFound, IsBehind}
+use Rattle.join_ops.specs.Joins.{SearchPlace, Start, Behind, IsFound, IsBehind}
 use Rattle.join_ops.specs.Levels.{fixed_of, Fits, IsAt, IsLeast, IsSearch}
 use Rattle.join_ops.specs.declared.source.Source.{Source}
 use Rattle.join_ops.proofs.LevelLemmas.{goes_deeper, goes_back, gives_least, gives_none, starts, stands}
@@ -36,7 +36,7 @@ module _ (table : List TableRow) (atoms : List ShapeAtom) (sources : List Source
   within : level < length sources
   within = omega (arith, search.each)
 
-  pub deeper_step : (place : Place) (after : Option Elem) (e : Elem) (d : Source) → (level + 1 ≡ length (set images level e) → ⊥)
+  pub deeper_step : (place : SearchPlace) (after : Option Elem) (e : Elem) (d : Source) → (level + 1 ≡ length (set images level e) → ⊥)
       → IsLeastAbove (Fits table atoms (get_or sources level d) (take level images)) after (Some e)
       → IsAt table atoms (map fixed_of sources) place (take level images) after → IsAt table atoms (map fixed_of sources) place (take (level + 1) (set images level e)) None
   deeper_step place after e d more least is =
@@ -54,7 +54,7 @@ module _ (table : List TableRow) (atoms : List ShapeAtom) (sources : List Source
       let levels : length images - level ≡ suc (length images - (level + 1)) = omega arith in
       rw (take_more_set images level e below, length-set images level e, levels) falls
 
-  pub last_step : (place : Place) (after : Option Elem) (e : Elem) (d : Source) → level + 1 ≡ length (set images level e)
+  pub last_step : (place : SearchPlace) (after : Option Elem) (e : Elem) (d : Source) → level + 1 ≡ length (set images level e)
       → IsLeastAbove (Fits table atoms (get_or sources level d) (take level images)) after (Some e)
       → IsAt table atoms (map fixed_of sources) place (take level images) after → IsLeast table atoms (map fixed_of sources) place (set images level e)
   last_step place after e d last least is =
@@ -62,7 +62,7 @@ module _ (table : List TableRow) (atoms : List ShapeAtom) (sources : List Source
       (omega (arith, long, search.each, last, length-set images level e)) (λ a c. rw search.each (search.below a c)) least is in
       rw (set_last images level e last below) found
 
-  pub back_step : (place : Place) (after : Option Elem) (d : Source) (x : Elem) → (level ≡ 0 → ⊥)
+  pub back_step : (place : SearchPlace) (after : Option Elem) (d : Source) (x : Elem) → (level ≡ 0 → ⊥)
       → IsLeastAbove (Fits table atoms (get_or sources level d) (take level images)) after None
       → IsAt table atoms (map fixed_of sources) place (take level images) after → IsAt table atoms (map fixed_of sources) place (take (level - 1) images) (Some (get_or images (level - 1) x))
   back_step place after d x some none is =
@@ -78,7 +78,7 @@ module _ (table : List TableRow) (atoms : List ShapeAtom) (sources : List Source
       let levels : length images - (level - 1) ≡ suc (length images - level) = omega arith in
       rw (take_back images level x below some, levels) falls
 
-  pub none_step : (place : Place) (after : Option Elem) (d : Source) → level ≡ 0
+  pub none_step : (place : SearchPlace) (after : Option Elem) (d : Source) → level ≡ 0
       → IsLeastAbove (Fits table atoms (get_or sources level d) (take level images)) after None
       → IsAt table atoms (map fixed_of sources) place (take level images) after
       → (others : List Elem) → IsFound table atoms (map fixed_of sources) others → IsBehind place others → ⊥

@@ -19,16 +19,16 @@ pub record AreMatches (table : List TableRow) (s : Layout) (fixed : List (Option
   pub each : (images : List Elem) → Contains matches images ↔ (IsShapeMatch table s images × IsFixed fixed images)
 
 -- before the first match, behind the match that was given last, or at the end
-pub data Place : Type 0 where
-  Start : Place
-  Behind : List Elem → Place
-  End : Place
+pub data SearchPlace : Type 0 where
+  Start : SearchPlace
+  Behind : List Elem → SearchPlace
+  End : SearchPlace
 
 -- the atoms that are searched for, the individual of each fixed one of their terms, and how far the search has come
 pub record Search : Type 0 where
   pub atoms : List ShapeAtom
   pub fixed : List (Option ℕ)
-  pub place : Place
+  pub place : SearchPlace
 
 -- an image for each term, such that the fixed terms are on their individuals and each atom is a row of the table
 pub record IsFound (table : List TableRow) (atoms : List ShapeAtom) (fixed : List (Option ℕ)) (images : List Elem) : Type 0 where
@@ -37,7 +37,7 @@ pub record IsFound (table : List TableRow) (atoms : List ShapeAtom) (fixed : Lis
   pub fixed_are : IsFixed fixed images
 
 -- the images are above those that were given last
-abbrev pub IsBehind : Place → List Elem → Type 0
+abbrev pub IsBehind : SearchPlace → List Elem → Type 0
 IsBehind Start images = Unit {0}
 IsBehind (Behind last) images = slice_cmp elem_cmp last images ≡ Less
 IsBehind End images = ⊥

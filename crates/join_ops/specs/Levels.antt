@@ -7,7 +7,7 @@ use Rattle.dl_base.specs.declared.element.Elem.{Elem}
 use Rattle.dl_base.specs.declared.element.Elem.TheVariants as elem
 use Rattle.query_shape.specs.Shape.{HoldsAt, IsTermOf, IsBelow}
 use Rattle.query_shape.specs.declared.layout.ShapeAtom.{ShapeAtom}
-use Rattle.join_ops.specs.Joins.{Place, Start, Behind, End, IsFound, IsBehind}
+use Rattle.join_ops.specs.Joins.{SearchPlace, Start, Behind, End, IsFound, IsBehind}
 use Rattle.join_ops.specs.declared.source.Source.{Source}
 use Rattle.join_ops.specs.declared.source.Source.TheVariants as source
 use Rattle.join_ops.specs.declared.search.At.{At}
@@ -28,15 +28,15 @@ Offers table (source.Outgoing r) front e = HasEdge table r e
 Offers table (source.Edge r n) front e = (f : Elem) × (slice_get front n ≡ Some f) × Contains table (edge_row r f e)
 
 -- an edge comes from one of so many terms in front
-abbrev pub IsWithin : ℕ → Source → Type 0
-IsWithin k (source.Named n) = Unit {0}
-IsWithin k (source.Concept c) = Unit {0}
-IsWithin k (source.Outgoing r) = Unit {0}
-IsWithin k (source.Edge r n) = n < k
+abbrev pub IsFromFront : ℕ → Source → Type 0
+IsFromFront k (source.Named n) = Unit {0}
+IsFromFront k (source.Concept c) = Unit {0}
+IsFromFront k (source.Outgoing r) = Unit {0}
+IsFromFront k (source.Edge r n) = n < k
 
 -- where the atom holds, the element of the term is offered
 pub record Serves (k : ℕ) (s : Source) (a : ShapeAtom) : Type 0 where
-  pub within : IsWithin k s
+  pub within : IsFromFront k s
   pub free : fixed_of s ≡ None
   pub offers : (table : List TableRow) (images : List Elem) (e : Elem) → HoldsAt table images a → slice_get images k ≡ Some e → Offers table s images e
 
@@ -58,10 +58,10 @@ pub record Fits (table : List TableRow) (atoms : List ShapeAtom) (s : Source) (f
   pub passes : (a : ShapeAtom) → Contains atoms a → PassesAt table front e a
 
 -- the place that is kept as the images and what they are
-abbrev pub place_of : At → List Elem → Place
-place_of at.Start images = Start
-place_of at.Behind images = Behind images
-place_of at.End images = End
+abbrev pub place_at : At → List Elem → SearchPlace
+place_at at.Start images = Start
+place_at at.Behind images = Behind images
+place_at at.End images = End
 
 -- the images begin above the front, or with it and go on above that element
 abbrev pub IsBeyond : List Elem → Option Elem → List Elem → Type 0
@@ -75,24 +75,24 @@ pub record IsFront (table : List TableRow) (atoms : List ShapeAtom) (fixed : Lis
   pub fixed_are : (k n : ℕ) → k < length front → slice_get fixed k ≡ Some (Some n) → slice_get front k ≡ Some (elem.Named n)
 
 -- what is behind the place is what goes on above this element of the next term
-pub record IsAt (table : List TableRow) (atoms : List ShapeAtom) (fixed : List (Option ℕ)) (place : Place) (front : List Elem) (after : Option Elem) : Type 0 where
+pub record IsAt (table : List TableRow) (atoms : List ShapeAtom) (fixed : List (Option ℕ)) (place : SearchPlace) (front : List Elem) (after : Option Elem) : Type 0 where
   pub front_is : IsFront table atoms fixed front
   pub beyond : (images : List Elem) → IsFound table atoms fixed images → IsBehind place images → IsBeyond front after images
   pub behind : (images : List Elem) → length images ≡ length fixed → IsBeyond front after images → IsBehind place images
 
 -- the least of the matches behind the place
-pub record IsLeast (table : List TableRow) (atoms : List ShapeAtom) (fixed : List (Option ℕ)) (place : Place) (images : List Elem) : Type 0 where
+pub record IsLeast (table : List TableRow) (atoms : List ShapeAtom) (fixed : List (Option ℕ)) (place : SearchPlace) (images : List Elem) : Type 0 where
   pub found : IsFound table atoms fixed images
   pub behind : IsBehind place images
   pub least : (others : List Elem) → IsFound table atoms fixed others → IsBehind place others → (images ≡ others) ⊎ (slice_cmp elem_cmp images others ≡ Less)
 
 -- it is that match, or there is none behind the place
-abbrev pub Finds : List TableRow → List ShapeAtom → List (Option ℕ) → Place → Bool → List Elem → Type 0
+abbrev pub Finds : List TableRow → List ShapeAtom → List (Option ℕ) → SearchPlace → Bool → List Elem → Type 0
 Finds table atoms fixed place true images = IsLeast table atoms fixed place images
 Finds table atoms fixed place false images = (others : List Elem) → IsFound table atoms fixed others → IsBehind place others → ⊥
 
 -- the match at which a search stands
-abbrev pub IsLast : List TableRow → List ShapeAtom → List (Option ℕ) → Place → Type 0
+abbrev pub IsLast : List TableRow → List ShapeAtom → List (Option ℕ) → SearchPlace → Type 0
 IsLast table atoms fixed place = (images : List Elem) → place ≡ Behind images → IsFound table atoms fixed images
 
 -- what a search over so many terms is kept as

@@ -5,7 +5,7 @@ ghost use Rattle.dl_base.specs.declared.element.Elem.{Elem as AnyElem};
 ghost use Rattle.dl_base.specs.declared.element.Elem.TheVariants as elem;
 ghost use Rattle.query_shape.specs.Shape.{HoldsAt, IsTermOf, IsBelow};
 ghost use Rattle.query_shape.specs.declared.layout.ShapeAtom.{ShapeAtom as AnyAtom};
-ghost use Rattle.join_ops.specs.Levels.{Offers, IsWithin, PassesAt, Fits};
+ghost use Rattle.join_ops.specs.Levels.{Offers, IsFromFront, PassesAt, Fits};
 
 use crate::source::Source;
 use dl_base::{Elem, Role, Tables};
@@ -20,7 +20,7 @@ pub(crate) fn candidate<T: Tables>(
     front: &[Elem],
     after: Option<Elem>,
 ) -> Option<Elem>
-    requires { IsWithin (length front.now) source }
+    requires { IsFromFront (length front.now) source }
     ensures { IsLeastAbove (Fits (T.rows t.now) atoms.now source front.now) after result }
 {
     let mut above = after;
@@ -37,7 +37,7 @@ pub(crate) fn candidate<T: Tables>(
 
 /// The least element above `after`, or of all, that the source gives.
 fn offered<T: Tables>(t: &T, source: Source, front: &[Elem], after: Option<Elem>) -> Option<Elem>
-    requires { IsWithin (length front.now) source }
+    requires { IsFromFront (length front.now) source }
     ensures { IsLeastAbove (Offers (T.rows t.now) source front.now) after result }
 {
     match source {

@@ -27,9 +27,9 @@ impl Model for Matches {
 
     ghost Value = { Search };
 
-    ghost use Rattle.join_ops.specs.Levels.{IsSearch, fixed_of, place_of};
+    ghost use Rattle.join_ops.specs.Levels.{IsSearch, fixed_of, place_at};
 
-    ghost view = { λ m. record { atoms = m.atoms; fixed = map fixed_of m.sources.items; place = place_of m.at m.images.items } };
+    ghost view = { λ m. record { atoms = m.atoms; fixed = map fixed_of m.sources.items; place = place_at m.at m.images.items } };
 
     ghost invariant = { λ m. IsSearch m.atoms m.sources.items (length m.images.items) };
 }

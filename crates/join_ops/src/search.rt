@@ -1,7 +1,7 @@
 //! The search for the next match, by levels.
 ghost use Rattle.std.specs.Prelude.{◌<◌, length, take, map};
-ghost use Rattle.join_ops.specs.Joins.{Place};
-ghost use Rattle.join_ops.specs.Levels.{Finds, IsAt, IsLast, IsSearch, fixed_of, place_of};
+ghost use Rattle.join_ops.specs.Joins.{SearchPlace};
+ghost use Rattle.join_ops.specs.Levels.{Finds, IsAt, IsLast, IsSearch, fixed_of, place_at};
 
 use crate::level::candidate;
 use crate::source::Source;
@@ -25,8 +25,8 @@ pub(crate) fn resume<T: Tables>(
     at: At,
 ) -> bool
     requires { IsSearch atoms.now sources.now (length images.old) }
-    ensures { IsLast (T.rows t.now) atoms.now (map fixed_of sources.now) (place_of at images.old)
-        → Finds (T.rows t.now) atoms.now (map fixed_of sources.now) (place_of at images.old) result images.new }
+    ensures { IsLast (T.rows t.now) atoms.now (map fixed_of sources.now) (place_at at images.old)
+        → Finds (T.rows t.now) atoms.now (map fixed_of sources.now) (place_at at images.old) result images.new }
 {
     match at {
         At::Start => search(t, atoms, sources, images, 0, None),
@@ -50,7 +50,7 @@ fn search<T: Tables>(
 ) -> bool
     requires search { IsSearch atoms.now sources.now (length images.old) }
     requires level { level < length images.old }
-    ensures { (place : Place) → IsAt (T.rows t.now) atoms.now (map fixed_of sources.now) place (take level images.old) after
+    ensures { (place : SearchPlace) → IsAt (T.rows t.now) atoms.now (map fixed_of sources.now) place (take level images.old) after
         → Finds (T.rows t.now) atoms.now (map fixed_of sources.now) place result images.new }
 {
     let mut level = level;

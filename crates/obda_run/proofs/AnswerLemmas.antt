@@ -25,7 +25,7 @@ use Rattle.answer_core.specs.AnswerLaws.{HasNoSuccessorHead}
 use Rattle.obda_run.specs.Drafting.{IsConceptHead, IsWhole, HasReply}
 use Rattle.obda_run.specs.declared.document.Document.{Document}
 use Rattle.obda_run.proofs.FactLemmas.{in_order, rows_in_order}
-use Rattle.query_shape.proofs.PlaceLemmas.{member_at}
+use Rattle.dl_base.proofs.PlaceLemmas.{member_at}
 
 -- ---- names that the ontology has
 

@@ -24,10 +24,9 @@ use Rattle.dl_base.proofs.DerivationLemmas.{monotone}
 use Rattle.dl_base.proofs.RowLemmas.{contains_cut, individual_through}
 use Rattle.horn_closure.specs.Closure.{IsClosure, Outcome}
 use Rattle.plain_tables.specs.Kept.{table_row}
-use Rattle.query_shape.proofs.PlaceLemmas.{one_place}
+use Rattle.dl_base.proofs.PlaceLemmas.{one_place, some_same}
 use Rattle.answer_core.specs.AnswerLaws.{HasNoSuccessorHead}
 use Rattle.answer_core.proofs.Successors.{not_live, node_points_not}
-use Rattle.answer_core.proofs.ListLemmas.{some_same}
 use Rattle.obda_run.specs.Completed.{turned, HoldsBy, AreHeldSets, IsOfRole, IsTableRow, of_role, derived}
 use Rattle.obda_run.specs.Facts.{KeepsFacts, NumbersRow}
 use Rattle.obda_run.specs.declared.facts.Facts.{Facts}

@@ -26,8 +26,8 @@ use Rattle.dl_base.specs.declared.row.Row.{Row}
 use Rattle.dl_base.specs.declared.row.Row.TheVariants as row
 use Rattle.dl_base.proofs.RisingLemmas.{nat_same, placed, placed_rises, placed_adds, Adds, contains_cases, contains_first, contains_later, all_contains}
 use Rattle.dl_base.proofs.RowLemmas.{name_total, name_same, row_total, row_same, contains_cut, individual_through, none_rising, then_first, then_second}
-use Rattle.dl_base.proofs.ExtendLemmas.{name_there, interned_is}
-use Rattle.query_shape.proofs.PlaceLemmas.{member_at, place_stays, one_place, distinct_head, distinct_tail, no_more}
+use Rattle.dl_base.proofs.ExtendLemmas.{name_there, interned_is, name_stays}
+use Rattle.dl_base.proofs.PlaceLemmas.{member_at, place_stays, one_place, distinct_head, distinct_tail, no_more}
 use Rattle.obda_run.specs.Completed.{IsRowWithin}
 use Rattle.obda_run.specs.Document.{TooManyFacts}
 use Rattle.obda_run.specs.Facts.{KeepsFacts, NumbersRow, names_in}
@@ -166,13 +166,6 @@ name_keeps_place names more k x at = by (list_any (bytes_eq more) names)
 names_keep_place : (names more : List (List ℕ)) (k : ℕ) (x : List ℕ) → slice_get names k ≡ Some x → slice_get (with_names names more) k ≡ Some x
 names_keep_place names [] k x at = at
 names_keep_place names (y ∷ ys) k x at = names_keep_place (with_name names y) ys k x (name_keeps_place names y k x at)
-
-name_stays : (names : List (List ℕ)) (more name : List ℕ) → Contains names name → Contains (with_name names more) name
-name_stays names more name c = by (list_any (bytes_eq more) names)
-  where
-    by : (b : Bool) → Contains (if b then names else names ++ more ∷ []) name
-    by true = c
-    by false = Contains-append_left names (more ∷ []) name c
 
 name_cases : (names : List (List ℕ)) (more x : List ℕ) → Contains (with_name names more) x → (x ≡ more) ⊎ Contains names x
 name_cases names more x = by (list_any (bytes_eq more) names)

@@ -34,7 +34,7 @@ use Rattle.obda_run.specs.declared.document.Partial.{Partial}
 use Rattle.obda_run.proofs.ReasonLemmas.{NoneBelow, HoldsFor, none_misplaced, none_not_built, none_limit, none_large, none_unsafe, none_concept, none_role, none_facts, none_holds}
 use Rattle.obda_run.proofs.OntologyLemmas.{ontology_more, ontology_same, axioms_fit, axioms_pass}
 use Rattle.obda_run.proofs.FactLemmas.{no_facts, some_facts, facts_of_none, facts_fit}
-use Rattle.query_shape.proofs.PlaceLemmas.{member_at}
+use Rattle.dl_base.proofs.PlaceLemmas.{member_at}
 use Rattle.obda_run.proofs.QueryLemmas.{not_large, not_unsafe, none_unknown, unknown_concept, unknown_role, not_both_first}
 use Rattle.obda_run.proofs.DraftLemmas.{refused_long, refused_by, kept_more}
 use Rattle.dl_base.specs.declared.query.Atom.TheVariants as atom

@@ -4,7 +4,7 @@ use Rattle.std.specs.List.{AllByRecursion, AllZip, flat_map}
 use Rattle.std.proofs.lemmas.List.{append-nil}
 use Rattle.std.proofs.lemmas.Bool.{cases_order}
 use Rattle.std.proofs.lemmas.Grind.{fold-append, flat_map-append}
-use Rattle.std.proofs.lemmas.List.Elements.{All-cons, All-nil}
+use Rattle.std.proofs.lemmas.List.Elements.{All-cons, All-nil, Contains-append_left, Contains-append_right}
 use Rattle.dl_base.specs.Ontology.{Terminology}
 use Rattle.dl_base.specs.Axiom.{Statement, with_name, with_names, NumbersHead, NumbersInclusion, Passes, IsExtended}
 use Rattle.dl_base.specs.declared.concept.Basic.TheVariants as basic
@@ -23,17 +23,6 @@ use Rattle.obda_run.specs.Document.{Context, nothing_said, with_line, concept_na
 use Rattle.obda_run.specs.Drafting.{IsConceptHead, KeepsOntology}
 
 -- ---- members of joined lists
-
-in_front : {X : Type 0} (xs ys : List X) (x : X) → Contains xs x → Contains (xs ++ ys) x
-in_front [] ys x there = absurd (omega (arith, there.1))
-in_front (y ∷ xs) ys x there = elim (contains_cases y xs x there) [
-  | inl same ↦ subst (Contains (y ∷ (xs ++ ys))) (sym same) (contains_first y (xs ++ ys))
-  | inr more ↦ contains_later y (xs ++ ys) x (in_front xs ys x more)
-]
-
-pub in_back : {X : Type 0} (xs ys : List X) (x : X) → Contains ys x → Contains (xs ++ ys) x
-in_back [] ys x there = there
-in_back (y ∷ xs) ys x there = contains_later y (xs ++ ys) x (in_back xs ys x there)
 
 in_either : {X : Type 0} (xs ys : List X) (x : X) → Contains (xs ++ ys) x → Contains xs x ⊎ Contains ys x
 in_either [] ys x there = inr there
@@ -155,7 +144,7 @@ module _ (said : Context) (o : Terminology) (k : KeepsOntology said o) (a : Stat
   pub axioms_pass : (w : Which) → Passes o a w → TooManyAxioms (said.axioms ++ a ∷ [])
   axioms_pass which.Conjuncts not =
       let found = long_one a.inclusions not in
-      inl (found.0, subst (λ (is : List NamedInclusion). Contains is found.0) (sym (inclusions_more said.axioms a)) (in_back (inclusions_in said.axioms) a.inclusions found.0 found.1), found.2)
+      inl (found.0, subst (λ (is : List NamedInclusion). Contains is found.0) (sym (inclusions_more said.axioms a)) (Contains-append_right (inclusions_in said.axioms) a.inclusions found.0 found.1), found.2)
   axioms_pass which.Concepts many = inr (inl (subst (λ (names : List (List ℕ)). 512 < length names) (sym concepts_now) many))
   axioms_pass which.Roles many = inr (inr (inl (subst (λ (names : List (List ℕ)). 256 < length names) (sym roles_now) many)))
   axioms_pass which.Inclusions many = inr (inr (inr (subst (λ (n : ℕ). 4096 < n) (sym count_now) many)))

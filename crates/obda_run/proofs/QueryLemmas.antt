@@ -12,7 +12,8 @@ use Rattle.dl_base.proofs.DerivationLemmas.{all-of, all-by}
 use Rattle.dl_base.proofs.RisingLemmas.{all_contains, contains_first}
 use Rattle.cq_reader.specs.QueryLimits.{IsTooLarge, IsFirstUnbound}
 use Rattle.cq_reader.proofs.TermCounts.{small_not_too_large}
-use Rattle.query_shape.specs.Shape.{IsShapeOf, Numbers, Layout}
+use Rattle.query_shape.specs.Shape.{IsShapeOf, NumbersAtom, Layout}
+use Rattle.query_shape.proofs.NumberingLemmas.{known_of}
 use Rattle.query_shape.specs.ShapeFault.{IsKnown, IsFirstFault, IsAtomFault}
 use Rattle.query_shape.specs.declared.layout.ShapeAtom.{ShapeAtom}
 use Rattle.query_shape.specs.declared.layout.ShapeAtom.TheVariants as shape
@@ -21,8 +22,8 @@ use Rattle.query_shape.specs.declared.numbering.ShapeError.TheVariants as errors
 use Rattle.obda_run.specs.Document.{Context, vocabulary, IsFirstUnknown}
 use Rattle.obda_run.specs.Drafting.{KeepsOntology}
 use Rattle.script_reader.proofs.BlankRules.{same_head, same_tail}
-use Rattle.query_shape.proofs.PlaceLemmas.{member_at}
-use Rattle.obda_run.proofs.OntologyLemmas.{in_back}
+use Rattle.dl_base.proofs.PlaceLemmas.{member_at}
+use Rattle.std.proofs.lemmas.List.Elements.{Contains-append_right}
 
 -- ---- the limits
 
@@ -32,7 +33,7 @@ not_large q is = small_not_too_large q (record { atoms = is.atoms; answers = is.
 pub not_unsafe : (q : Question) (v : List ℕ) → IsQuery q → IsFirstUnbound q v → ⊥
 not_unsafe q v is f =
     f.here (all_contains (λ w. Contains (terms q) (term.Var w)) q.answers v (all-by (λ w. Contains (terms q) (term.Var w)) q.answers is.safe)
-    (subst (λ (vs : List (List ℕ)). Contains vs v) (sym f.parts) (in_back f.before (v ∷ f.after) v (contains_first v f.after))))
+    (subst (λ (vs : List (List ℕ)). Contains vs v) (sym f.parts) (Contains-append_right f.before (v ∷ f.after) v (contains_first v f.after))))
 
 -- ---- names
 
@@ -54,7 +55,7 @@ module _ (said : Context) (o : Terminology) (k : KeepsOntology said o) where
     pub none_unknown : All (IsKnown o) q.atoms → (a : Atom) → IsFirstUnknown said.axioms q a → ⊥
     none_unknown known a f =
         f.unknown (known_there a (all_contains (IsKnown o) q.atoms a (all-by (IsKnown o) q.atoms known)
-        (subst (λ (atoms : List Atom). Contains atoms a) (sym f.parts) (in_back f.front (a ∷ f.more) a (contains_first a f.more)))))
+        (subst (λ (atoms : List Atom). Contains atoms a) (sym f.parts) (Contains-append_right f.front (a ∷ f.more) a (contains_first a f.more)))))
 
     cut_at : (atoms : List Atom) (place : ℕ) (a : Atom) → slice_get atoms place ≡ Some a → atoms ≡ take place atoms ++ a ∷ drop (suc place) atoms
     cut_at [] place a there = absurd cc
@@ -92,16 +93,10 @@ module _ (said : Context) (o : Terminology) (k : KeepsOntology said o) where
 
 -- ---- what has a shape has known names
 
-atom_known : (o : Terminology) (ts : List Term) (a : Atom) (s : ShapeAtom) → Numbers o ts a s → IsKnown o a
-atom_known o ts (atom.Concept name t) (shape.Concept c n) numbers = member_at o.concepts c name numbers.0
-atom_known o ts (atom.Role name t u) (shape.Role r n m) numbers = member_at o.roles r.name name numbers.0
-atom_known o ts (atom.Concept name t) (shape.Role r n m) numbers = absurd numbers
-atom_known o ts (atom.Role name t u) (shape.Concept c n) numbers = absurd numbers
-
-atoms_known : (o : Terminology) (ts : List Term) (atoms : List Atom) (ss : List ShapeAtom) → AllZip (Numbers o ts) atoms ss → AllByRecursion (IsKnown o) atoms
+atoms_known : (o : Terminology) (ts : List Term) (atoms : List Atom) (ss : List ShapeAtom) → AllZip (NumbersAtom o ts) atoms ss → AllByRecursion (IsKnown o) atoms
 atoms_known o ts [] ss each = tt
 atoms_known o ts (a ∷ atoms) [] each = absurd each
-atoms_known o ts (a ∷ atoms) (s ∷ ss) (first, rest) = (atom_known o ts a s first, atoms_known o ts atoms ss rest)
+atoms_known o ts (a ∷ atoms) (s ∷ ss) (first, rest) = (known_of o ts a s first, atoms_known o ts atoms ss rest)
 
 pub shape_known : (o : Terminology) (q : Question) (s : Layout) → IsShapeOf o q s → All (IsKnown o) q.atoms
 shape_known o q s is = all-of (IsKnown o) q.atoms (atoms_known o s.terms q.atoms s.atoms is.atoms_are)

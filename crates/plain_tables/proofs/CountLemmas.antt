@@ -12,25 +12,12 @@ use Rattle.std.proofs.lemmas.List.Kept.{AllPairs-cons}
 use Rattle.std.proofs.lemmas.Map.Keys.{Less-from_sorted}
 use Rattle.dl_base.specs.Tables.{AreCounted}
 use Rattle.dl_base.specs.declared.element.Elem.TheVariants as elem
+use Rattle.dl_base.proofs.PlaceLemmas.{map_contains, map_from}
 use Rattle.dl_base.proofs.RisingLemmas.{contains_cases, contains_later, contains_first}
 use Rattle.plain_tables.specs.Kept.{edge_cmp}
-use Rattle.plain_tables.specs.Search.{IsSource}
+use Rattle.plain_tables.specs.Search.{IsEdgeSource}
 use Rattle.plain_tables.specs.declared.rows.Edge.{Edge}
 use Rattle.plain_tables.proofs.OrderLemmas.{edge_less}
-
-pub map_contains : {X Y : Type 0} (f : X → Y) (xs : List X) (x : X) → Contains xs x → Contains (map f xs) (f x)
-map_contains f [] x c = absurd (omega (arith, c.1))
-map_contains f (y ∷ ys) x c = elim (contains_cases y ys x c) [
-  | inl e ↦ subst (λ (z : _). Contains (map f (y ∷ ys)) (f z)) (sym e) (contains_first (f y) (map f ys))
-  | inr d ↦ contains_later (f y) (map f ys) (f x) (map_contains f ys x d)
-]
-
-pub map_from : {X Y : Type 0} (f : X → Y) (xs : List X) (y : Y) → Contains (map f xs) y → (x : X) × Contains xs x × (y ≡ f x)
-map_from f [] y c = absurd (omega (arith, c.1))
-map_from f (x ∷ xs) y c = elim (contains_cases (f x) (map f xs) y c) [
-  | inl e ↦ (x, contains_first x xs, e)
-  | inr d ↦ let found = map_from f xs y d in (found.0, contains_later x xs found.0 found.1, found.2)
-]
 
 -- the sources of the first i rows, and that of the last of these
 pub record Counted (edges : List Edge) (i : ℕ) (last : Option ℕ) (count : ℕ) : Type 0 where
@@ -163,7 +150,7 @@ module _ (edges : List Edge) (p : ℕ) (rises : IsStrictlySortedBy edge_cmp edge
         subst (λ (n : ℕ). Counted edges (i + 1) (Some x.from) n) zero (counted_same i last count x below at counted old.1)
   ]
 
-  pub counted_all : (last : Option ℕ) (count : ℕ) → Counted edges (length edges) last count → AreCounted (IsSource edges) count
+  pub counted_all : (last : Option ℕ) (count : ℕ) → Counted edges (length edges) last count → AreCounted (IsEdgeSource edges) count
   counted_all last count counted = record {
     members = map elem.Named counted.froms;
     distinct = counted.distinct;

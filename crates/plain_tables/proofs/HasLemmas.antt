@@ -13,11 +13,11 @@ use Rattle.dl_base.specs.declared.element.Elem.TheVariants as elem
 use Rattle.dl_base.specs.declared.element.Witness.{Witness}
 use Rattle.dl_base.proofs.RisingLemmas.{contains_first, contains_later}
 use Rattle.plain_tables.specs.Kept.{AreMembers, AreEdges, member_cmp}
-use Rattle.plain_tables.specs.Search.{IsSource}
+use Rattle.plain_tables.specs.Search.{IsEdgeSource}
 use Rattle.plain_tables.specs.declared.rows.Member.{Member}
 use Rattle.plain_tables.specs.declared.rows.Edge.{Edge}
 use Rattle.plain_tables.proofs.OrderLemmas.{member_less}
-use Rattle.plain_tables.proofs.CountLemmas.{map_contains, map_from}
+use Rattle.dl_base.proofs.PlaceLemmas.{map_contains, map_from}
 use Rattle.plain_tables.proofs.LeastLemmas.{concept_are, source_are}
 
 -- what rising rows give is distinct, where it is so of each two
@@ -101,8 +101,8 @@ module _ (table : List TableRow) (edges : List Edge) where
       let same : RoleRow p e f ≡ RoleRow found.0.role (elem.Named found.0.from) (elem.Named found.0.to) = found.2 in
       (found.0, cc, cc)
 
-  pub role_count : (r : Role) (part : List Edge) (count : ℕ) → AreEdges table r.inverse edges → ((x : Edge) → Contains part x ↔ (Contains edges x × (x.role ≡ r.name))) → AreCounted (IsSource part) count → AreCounted (IsIn table (basic.Exists r)) count
-  role_count r part count are same counted = counted_as (IsSource part) (HasEdge table r) count (λ e. (
+  pub role_count : (r : Role) (part : List Edge) (count : ℕ) → AreEdges table r.inverse edges → ((x : Edge) → Contains part x ↔ (Contains edges x × (x.role ≡ r.name))) → AreCounted (IsEdgeSource part) count → AreCounted (IsIn table (basic.Exists r)) count
+  role_count r part count are same counted = counted_as (IsEdgeSource part) (HasEdge table r) count (λ e. (
     λ source.
         let both = (same source.0).0 source.1 in
         subst (HasEdge table r) (sym source.2) ((source_are table r edges are).each source.0 both.0 both.1),

@@ -12,24 +12,24 @@ use Rattle.dl_base.specs.declared.element.Elem.TheVariants as elem
 use Rattle.dl_base.specs.declared.row.Row.{Row}
 use Rattle.dl_base.specs.declared.row.Row.TheVariants as row
 use Rattle.dl_base.proofs.RisingLemmas.{contains_cases, contains_first, contains_later}
-use Rattle.plain_tables.specs.Kept.{AreMembers, AreEdges, AreKept, back, edge_cmp, edge_of, member_cmp, member_of, member_row, row_of, rows_of, table_row}
+use Rattle.plain_tables.specs.Kept.{AreMembers, AreEdges, AreKept, back, edge_cmp, edge_of, member_cmp, member_of, member_row, row_of_edge, rows_of, table_row}
 use Rattle.plain_tables.specs.declared.rows.Member.{Member}
 use Rattle.plain_tables.specs.declared.rows.Edge.{Edge}
-use Rattle.plain_tables.proofs.CountLemmas.{map_contains, map_from}
+use Rattle.dl_base.proofs.PlaceLemmas.{map_contains, map_from}
 use Rattle.plain_tables.proofs.HasLemmas.{map_apart}
 use Rattle.plain_tables.proofs.OrderLemmas.{member_total, edge_total}
 
 module _ (members : List Member) (edges : List Edge) where
   member_there : (m : Member) → Contains members m → Contains (rows_of members edges) (member_row m)
-  member_there m there = Contains-append_left (map member_row members) (map (row_of false) edges) (member_row m) (map_contains member_row members m there)
+  member_there m there = Contains-append_left (map member_row members) (map (row_of_edge false) edges) (member_row m) (map_contains member_row members m there)
 
-  edge_there : (x : Edge) → Contains edges x → Contains (rows_of members edges) (row_of false x)
-  edge_there x there = Contains-append_right (map member_row members) (map (row_of false) edges) (row_of false x) (map_contains (row_of false) edges x there)
+  edge_there : (x : Edge) → Contains edges x → Contains (rows_of members edges) (row_of_edge false x)
+  edge_there x there = Contains-append_right (map member_row members) (map (row_of_edge false) edges) (row_of_edge false x) (map_contains (row_of_edge false) edges x there)
 
-  row_cases : (r : TableRow) → Contains (rows_of members edges) r → ((m : Member) × Contains members m × (r ≡ member_row m)) ⊎ ((x : Edge) × Contains edges x × (r ≡ row_of false x))
-  row_cases r there = elim (Contains-append_cases (map member_row members) (map (row_of false) edges) r there) [
+  row_cases : (r : TableRow) → Contains (rows_of members edges) r → ((m : Member) × Contains members m × (r ≡ member_row m)) ⊎ ((x : Edge) × Contains edges x × (r ≡ row_of_edge false x))
+  row_cases r there = elim (Contains-append_cases (map member_row members) (map (row_of_edge false) edges) r there) [
     | inl c ↦ inl (map_from member_row members r c)
-    | inr c ↦ inr (map_from (row_of false) edges r c)
+    | inr c ↦ inr (map_from (row_of_edge false) edges r c)
   ]
 
   pub concepts_are : IsStrictlySortedBy member_cmp members → AreMembers (rows_of members edges) members
@@ -39,14 +39,14 @@ module _ (members : List Member) (edges : List Edge) where
     only = λ c e there. by c e (row_cases (ConceptRow c e) there);
   }
     where
-      by : (c : ℕ) (e : Elem) → ((m : Member) × Contains members m × (ConceptRow c e ≡ member_row m)) ⊎ ((x : Edge) × Contains edges x × (ConceptRow c e ≡ row_of false x)) → (m : Member) × Contains members m × (ConceptRow c e ≡ member_row m)
+      by : (c : ℕ) (e : Elem) → ((m : Member) × Contains members m × (ConceptRow c e ≡ member_row m)) ⊎ ((x : Edge) × Contains edges x × (ConceptRow c e ≡ row_of_edge false x)) → (m : Member) × Contains members m × (ConceptRow c e ≡ member_row m)
       by c e (inl found) = found
       by c e (inr (x, there, is)) = absurd cc
 
-  role_from : (p : ℕ) (e f : Elem) → Contains (rows_of members edges) (RoleRow p e f) → (x : Edge) × Contains edges x × (RoleRow p e f ≡ row_of false x)
+  role_from : (p : ℕ) (e f : Elem) → Contains (rows_of members edges) (RoleRow p e f) → (x : Edge) × Contains edges x × (RoleRow p e f ≡ row_of_edge false x)
   role_from p e f there = by (row_cases (RoleRow p e f) there)
     where
-      by : ((m : Member) × Contains members m × (RoleRow p e f ≡ member_row m)) ⊎ ((x : Edge) × Contains edges x × (RoleRow p e f ≡ row_of false x)) → (x : Edge) × Contains edges x × (RoleRow p e f ≡ row_of false x)
+      by : ((m : Member) × Contains members m × (RoleRow p e f ≡ member_row m)) ⊎ ((x : Edge) × Contains edges x × (RoleRow p e f ≡ row_of_edge false x)) → (x : Edge) × Contains edges x × (RoleRow p e f ≡ row_of_edge false x)
       by (inl (m, there, is)) = absurd cc
       by (inr found) = found
 
@@ -58,7 +58,7 @@ module _ (members : List Member) (edges : List Edge) where
     rising = rises;
     each = λ x there.
         let found = map_from back edges x ((same x).0 there) in
-        subst (λ (z : Edge). Contains (rows_of members edges) (row_of true z)) (sym found.2) (edge_there found.0 found.1);
+        subst (λ (z : Edge). Contains (rows_of members edges) (row_of_edge true z)) (sym found.2) (edge_there found.0 found.1);
     only = λ p e f there.
         let found = role_from p f e there in
         let y : Edge = found.0 in
@@ -79,10 +79,10 @@ module _ (members : List Member) (edges : List Edge) where
       (all_after xs ys (λ i j d less below. first (suc i) (suc j) d (omega arith) (omega arith)) second (λ a b ca cb. apart a b (contains_later x xs a ca) cb))
 
   pub rows_once : IsStrictlySortedBy member_cmp members → IsStrictlySortedBy edge_cmp edges → AllPairs (λ a b. a ≢ b) (rows_of members edges)
-  rows_once m e = all_after (map member_row members) (map (row_of false) edges)
+  rows_once m e = all_after (map member_row members) (map (row_of_edge false) edges)
       (map_apart member_cmp member_row members m (λ x y cx cy less same. member_apart x y less same))
-      (map_apart edge_cmp (row_of false) edges e (λ x y cx cy less same. edge_apart x y less same))
-      (λ a b ca cb same. kinds a b (map_from member_row members a ca) (map_from (row_of false) edges b cb) same)
+      (map_apart edge_cmp (row_of_edge false) edges e (λ x y cx cy less same. edge_apart x y less same))
+      (λ a b ca cb same. kinds a b (map_from member_row members a ca) (map_from (row_of_edge false) edges b cb) same)
     where
       member_apart : (x y : Member) → member_cmp x y ≡ Less → member_row x ≡ member_row y → ⊥
       member_apart x y less same =
@@ -96,7 +96,7 @@ module _ (members : List Member) (edges : List Edge) where
           not_both : {r : _} → r ≡ Equal → r ≡ Less → ⊥
           not_both e f = cc
 
-      edge_apart : (x y : Edge) → edge_cmp x y ≡ Less → row_of false x ≡ row_of false y → ⊥
+      edge_apart : (x y : Edge) → edge_cmp x y ≡ Less → row_of_edge false x ≡ row_of_edge false y → ⊥
       edge_apart x y less same =
           let f : x.role ≡ y.role = cc in
           let g : x.from ≡ y.from = cc in
@@ -106,7 +106,7 @@ module _ (members : List Member) (edges : List Edge) where
           let tied : edge_cmp x y ≡ Equal = subst (λ (z : Edge). edge_cmp x z ≡ Equal) is self in
           absurd cc
 
-      kinds : (a b : TableRow) → (m : Member) × Contains members m × (a ≡ member_row m) → (x : Edge) × Contains edges x × (b ≡ row_of false x) → a ≡ b → ⊥
+      kinds : (a b : TableRow) → (m : Member) × Contains members m × (a ≡ member_row m) → (x : Edge) × Contains edges x × (b ≡ row_of_edge false x) → a ≡ b → ⊥
       kinds a b (m, cm, f) (x, cx, g) same = cc
 
 -- what is picked out of a list
@@ -136,9 +136,9 @@ member_is : (x : Row) (m : Member) → member_of x ≡ Some m → member_row m �
 member_is (row.Concept c a) m e = let is : record { concept = c; individual = a } ≡ m = cc in sym (ap member_row is)
 member_is (row.Role p a b) m e = absurd cc
 
-edge_is : (x : Row) (y : Edge) → edge_of x ≡ Some y → row_of false y ≡ table_row x
+edge_is : (x : Row) (y : Edge) → edge_of x ≡ Some y → row_of_edge false y ≡ table_row x
 edge_is (row.Concept c a) y e = absurd cc
-edge_is (row.Role p a b) y e = let is : record { role = p; from = a; to = b } ≡ y = cc in sym (ap (row_of false) is)
+edge_is (row.Role p a b) y e = let is : record { role = p; from = a; to = b } ≡ y = cc in sym (ap (row_of_edge false) is)
 
 module _ (rows : List Row) (members : List Member) (edges : List Edge) (m : (x : Member) → Contains members x ↔ Contains (filter_map member_of rows) x) (e : (x : Edge) → Contains edges x ↔ Contains (filter_map edge_of rows) x) where
   there_from : (x : Row) → Contains rows x → Contains (rows_of members edges) (table_row x)
@@ -149,6 +149,6 @@ module _ (rows : List Row) (members : List Member) (edges : List Edge) (m : (x :
   pub rows_are : (r : TableRow) → Contains (rows_of members edges) r ↔ ((x : Row) × Contains rows x × (r ≡ table_row x))
   rows_are r = (λ there. by (row_cases members edges r there), λ found. subst (Contains (rows_of members edges)) (sym found.2) (there_from found.0 found.1))
     where
-      by : ((x : Member) × Contains members x × (r ≡ member_row x)) ⊎ ((x : Edge) × Contains edges x × (r ≡ row_of false x)) → (x : Row) × Contains rows x × (r ≡ table_row x)
+      by : ((x : Member) × Contains members x × (r ≡ member_row x)) ⊎ ((x : Edge) × Contains edges x × (r ≡ row_of_edge false x)) → (x : Row) × Contains rows x × (r ≡ table_row x)
       by (inl (x, there, is)) = let found = picked_from member_of rows x ((m x).0 there) in (found.0, found.1, is ∙ member_is found.0 x found.2)
       by (inr (x, there, is)) = let found = picked_from edge_of rows x ((e x).0 there) in (found.0, found.1, is ∙ edge_is found.0 x found.2)

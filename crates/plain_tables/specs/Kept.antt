@@ -43,12 +43,12 @@ abbrev pub member_row : Member → TableRow
 member_row m = ConceptRow m.concept (elem.Named m.individual)
 
 -- the role row, or that of which it is the reading from the other end
-abbrev pub row_of : Bool → Edge → TableRow
-row_of inverse x = turned_row inverse x.role (elem.Named x.from) (elem.Named x.to)
+abbrev pub row_of_edge : Bool → Edge → TableRow
+row_of_edge inverse x = turned_row inverse x.role (elem.Named x.from) (elem.Named x.to)
 
 -- the rows of the two lists
 abbrev pub rows_of : List Member → List Edge → List TableRow
-rows_of members edges = map member_row members ++ map (row_of false) edges
+rows_of members edges = map member_row members ++ map (row_of_edge false) edges
 
 -- the concept rows of a table, in order
 pub record AreMembers (table : List TableRow) (members : List Member) : Type 0 where
@@ -59,8 +59,8 @@ pub record AreMembers (table : List TableRow) (members : List Member) : Type 0 w
 -- the role rows of a table, read in one direction, in order
 pub record AreEdges (table : List TableRow) (inverse : Bool) (edges : List Edge) : Type 0 where
   pub rising : IsStrictlySortedBy edge_cmp edges
-  pub each : (x : Edge) → Contains edges x → Contains table (row_of inverse x)
-  pub only : (p : ℕ) (e f : Elem) → Contains table (turned_row inverse p e f) → (x : Edge) × Contains edges x × (turned_row inverse p e f ≡ row_of inverse x)
+  pub each : (x : Edge) → Contains edges x → Contains table (row_of_edge inverse x)
+  pub only : (p : ℕ) (e f : Elem) → Contains table (turned_row inverse p e f) → (x : Edge) × Contains edges x × (turned_row inverse p e f ≡ row_of_edge inverse x)
 
 -- the concept rows, the role rows, and these read from the other end, each list in order
 pub record AreKept (table : List TableRow) (members : List Member) (edges turned : List Edge) : Type 0 where

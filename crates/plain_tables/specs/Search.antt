@@ -26,5 +26,5 @@ abbrev pub target_passed : ℕ → ℕ → Option Elem → Edge → Bool
 target_passed role from after x = nat_lt x.role role || (nat_eq x.role role && (nat_lt x.from from || (nat_eq x.from from && not (is_above after x.to))))
 
 -- some row leads from the element
-abbrev pub IsSource : List Edge → Elem → Type 0
-IsSource edges e = (x : Edge) × Contains edges x × (e ≡ elem.Named x.from)
+abbrev pub IsEdgeSource : List Edge → Elem → Type 0
+IsEdgeSource edges e = (x : Edge) × Contains edges x × (e ≡ elem.Named x.from)

@@ -7,7 +7,7 @@ ghost use Rattle.dl_base.specs.declared.element.Elem.TheVariants as elem;
 ghost use Rattle.plain_tables.specs.declared.rows.Member.{Member as AnyMember};
 ghost use Rattle.plain_tables.specs.declared.rows.Edge.{Edge as AnyEdge};
 ghost use Rattle.plain_tables.specs.Kept.{member_cmp, edge_cmp, is_above};
-ghost use Rattle.plain_tables.specs.Search.{IsFirstPast, member_passed, source_passed, target_passed, IsSource};
+ghost use Rattle.plain_tables.specs.Search.{IsFirstPast, member_passed, source_passed, target_passed, IsEdgeSource};
 
 use crate::rows::{Edge, Member};
 use dl_base::Elem;
@@ -83,7 +83,7 @@ pub fn of_role(edges: &[Edge], role: u32) -> &[Edge]
 pub fn count_sources(edges: &[Edge], role: u32) -> u64
     requires rising { IsStrictlySortedBy edge_cmp edges.now }
     requires same { All (λ (x : AnyEdge). x.role ≡ role) edges.now }
-    ensures { AreCounted (IsSource edges.now) result }
+    ensures { AreCounted (IsEdgeSource edges.now) result }
 {
     let mut count = 0;
     let mut last = None;

@@ -1,4 +1,3 @@
-pub mod PlaceLemmas
 pub mod NumberingLemmas
 pub mod MatchLemmas
 pub mod MatchList

@@ -16,12 +16,12 @@ use Rattle.dl_base.specs.declared.query.Term.TheVariants as term
 use Rattle.dl_base.specs.declared.query.Atom.{Atom}
 use Rattle.dl_base.specs.declared.query.Atom.TheVariants as atom
 use Rattle.dl_base.proofs.RisingLemmas.{contains_cases, contains_later, contains_first}
-use Rattle.query_shape.specs.Shape.{Occur, no_term, known_term, new_term, Numbers, IsShapeMatch, HoldsAt}
+use Rattle.query_shape.specs.Shape.{Occur, no_term, known_term, new_term, NumbersAtom, IsShapeMatch, HoldsAt}
 use Rattle.query_shape.specs.ShapeLaws.{SameMatches, EachPlacing, ShapeOnce, XIsFirst}
 use Rattle.query_shape.specs.declared.layout.ShapeAtom.{ShapeAtom}
 use Rattle.query_shape.specs.declared.layout.ShapeAtom.TheVariants as shape
 use Rattle.query_shape.proofs.NumberingLemmas.{occur_distinct}
-use Rattle.query_shape.proofs.PlaceLemmas.{one_place, zip_left, zip_right, distinct_head, distinct_tail}
+use Rattle.dl_base.proofs.PlaceLemmas.{one_place, zip_left, zip_right, distinct_head, distinct_tail}
 
 -- ---- rows at the images of terms
 
@@ -32,7 +32,7 @@ image_is : (place : Term → Elem) (ts : List Term) (n : ℕ) (t : Term) (e : El
 image_is place ts n t e at image = same_Some e (place t) (sym image ∙ image_at place ts n t at)
 
 module _ (o : Terminology) (table : List TableRow) (place : Term → Elem) (ts : List Term) (concepts : AllPairs (λ x y. x ≢ y) o.concepts) (roles : AllPairs (λ x y. x ≢ y) o.roles) where
-  holds_at : (a : Atom) (s : ShapeAtom) → Numbers o ts a s → IsRowAt o table place a → HoldsAt table (map place ts) s
+  holds_at : (a : Atom) (s : ShapeAtom) → NumbersAtom o ts a s → IsRowAt o table place a → HoldsAt table (map place ts) s
   holds_at (atom.Concept name t) (shape.Concept c n) h (d, named, row) =
       let same : d ≡ c = one_place o.concepts d c name concepts named h.0 in
       (place t, image_at place ts n t h.1, subst (λ (k : ℕ). Contains table (ConceptRow k (place t))) same row)
@@ -42,7 +42,7 @@ module _ (o : Terminology) (table : List TableRow) (place : Term → Elem) (ts :
   holds_at (atom.Concept name t) (shape.Role r n m) h row = absurd h
   holds_at (atom.Role name t u) (shape.Concept c n) h row = absurd h
 
-  row_at : (a : Atom) (s : ShapeAtom) → Numbers o ts a s → HoldsAt table (map place ts) s → IsRowAt o table place a
+  row_at : (a : Atom) (s : ShapeAtom) → NumbersAtom o ts a s → HoldsAt table (map place ts) s → IsRowAt o table place a
   row_at (atom.Concept name t) (shape.Concept c n) h (e, image, row) =
       (c, h.0, subst (λ (f : Elem). Contains table (ConceptRow c f)) (image_is place ts n t e h.1 image) row)
   row_at (atom.Role name t u) (shape.Role r n m) h (e, f, first, second, row) =
@@ -59,11 +59,11 @@ same_matches o table q s place concepts roles is = (into, back)
     into : IsMatch o table q place → IsShapeMatch table s (map place s.terms)
     into m = record {
       count = length-map s.terms place;
-      atoms = λ a there. let of = zip_right (Numbers o s.terms) q.atoms s.atoms is.atoms_are a there in holds_at o table place s.terms concepts roles of.0 a of.2 (m of.0 of.1);
+      atoms = λ a there. let of = zip_right (NumbersAtom o s.terms) q.atoms s.atoms is.atoms_are a there in holds_at o table place s.terms concepts roles of.0 a of.2 (m of.0 of.1);
     }
 
     back : IsShapeMatch table s (map place s.terms) → IsMatch o table q place
-    back m = λ a there. let of = zip_left (Numbers o s.terms) q.atoms s.atoms is.atoms_are a there in row_at o table place s.terms concepts roles a of.0 of.2 (m.atoms of.0 of.1)
+    back m = λ a there. let of = zip_left (NumbersAtom o s.terms) q.atoms s.atoms is.atoms_are a there in row_at o table place s.terms concepts roles a of.0 of.2 (m.atoms of.0 of.1)
 
 -- ---- placings
 
@@ -148,7 +148,7 @@ occur_once (new_term {all = before} {distinct = kept} t o absent) (new_term {all
     λ i. same i ++ parts.1 i ∷ []
 
 module _ (o : Terminology) (ts : List Term) (concepts : AllPairs (λ x y. x ≢ y) o.concepts) (roles : AllPairs (λ x y. x ≢ y) o.roles) (distinct : AllPairs (λ t u. t ≢ u) ts) where
-  atom_once : (a : Atom) (s other : ShapeAtom) → Numbers o ts a s → Numbers o ts a other → s ≡ other
+  atom_once : (a : Atom) (s other : ShapeAtom) → NumbersAtom o ts a s → NumbersAtom o ts a other → s ≡ other
   atom_once (atom.Concept name t) (shape.Concept c n) (shape.Concept d m) h k =
       let concept = one_place o.concepts c d name concepts h.0 k.0 in
       let number = one_place ts n m t distinct h.1 k.1 in
@@ -164,7 +164,7 @@ module _ (o : Terminology) (ts : List Term) (concepts : AllPairs (λ x y. x ≢ 
   atom_once (atom.Role name t u) (shape.Role r n m) (shape.Concept d x) h k = absurd k
   atom_once (atom.Role name t u) (shape.Concept c n) other h k = absurd h
 
-  atoms_once : (atoms : List Atom) (ss others : List ShapeAtom) → AllZip (Numbers o ts) atoms ss → AllZip (Numbers o ts) atoms others → ss ≡ others
+  atoms_once : (atoms : List Atom) (ss others : List ShapeAtom) → AllZip (NumbersAtom o ts) atoms ss → AllZip (NumbersAtom o ts) atoms others → ss ≡ others
   atoms_once [] [] [] h k = refl
   atoms_once [] [] (x ∷ others) h k = absurd k
   atoms_once [] (s ∷ ss) others h k = absurd h
@@ -178,7 +178,7 @@ module _ (o : Terminology) (ts : List Term) (concepts : AllPairs (λ x y. x ≢ 
 pub shape_once : ShapeOnce
 shape_once o q s other concepts roles is too =
     let same : s.terms ≡ other.terms = occur_once is.terms_are too.terms_are refl in
-    let also : AllZip (Numbers o s.terms) q.atoms other.atoms = rw same too.atoms_are in
+    let also : AllZip (NumbersAtom o s.terms) q.atoms other.atoms = rw same too.atoms_are in
     let atoms : s.atoms ≡ other.atoms = atoms_once o s.terms concepts roles (occur_distinct is.terms_are) q.atoms s.atoms other.atoms is.atoms_are also in
     λ i. record { terms = same i; atoms = atoms i }
 

@@ -1,5 +1,5 @@
 -- The matches of a layout in a table are a finite list, in order.
-use Rattle.std.proofs.Common.{◌≡◌, ℕ, zero, suc, ◌<◌, ◌⊎◌, inl, inr, Bool, true, false, List, [], ◌∷◌, ◌++◌, length, map, Option, Some, None, slice_get, Contains, refl, sym, ◌∙◌, ap, subst, arith, true≢false}
+use Rattle.std.proofs.Common.{◌≡◌, ℕ, zero, suc, ◌<◌, ◌⊎◌, inl, inr, Bool, true, false, List, [], ◌∷◌, length, map, Option, Some, None, slice_get, Contains, refl, sym, ◌∙◌, ap, subst, arith, true≢false}
 use Rattle.std.specs.Prelude.{◌↔◌, flat_map}
 use Rattle.std.specs.Cmp.{IsTotalOrder}
 use Rattle.std.specs.Cmp.Lexicographic.{slice_cmp}
@@ -9,7 +9,6 @@ use Rattle.std.specs.declared.cmp.Ordering.TheVariants.{Less, Equal, Greater}
 use Rattle.std.specs.Ordering.{nat_cmp}
 use Rattle.std.proofs.lemmas.Cmp.{nat_cmp_total, lists_total, tied_itself}
 use Rattle.std.proofs.lemmas.Option.{same_Some}
-use Rattle.std.proofs.lemmas.List.Elements.{Contains-append_left, Contains-append_right}
 use Rattle.dl_base.specs.Tables.{TableRow, ConceptRow, RoleRow, edge_row, turned_row, elem_cmp}
 use Rattle.dl_base.specs.declared.element.Elem.{Elem}
 use Rattle.dl_base.specs.declared.element.Elem.TheVariants as elem
@@ -19,7 +18,7 @@ use Rattle.dl_base.proofs.RowLemmas.{none_rising}
 use Rattle.query_shape.specs.Shape.{Layout, IsLayout, IsShapeMatch, IsTermOf, HoldsAt}
 use Rattle.query_shape.specs.declared.layout.ShapeAtom.{ShapeAtom}
 use Rattle.query_shape.specs.declared.layout.ShapeAtom.TheVariants as shape
-use Rattle.query_shape.proofs.PlaceLemmas.{place_of}
+use Rattle.dl_base.proofs.PlaceLemmas.{place_of, map_contains, flat_there}
 
 -- ---- what can be decided
 
@@ -52,7 +51,7 @@ decide_same {X} cmp total same x y = by (cmp x y) refl
     by Equal e = inl (same x y e)
     by Greater e = inr (λ p. let t : cmp x y ≡ Equal = tied p in cc)
 
-decide_nat : (m n : ℕ) → Decided (m ≡ n)
+pub decide_nat : (m n : ℕ) → Decided (m ≡ n)
 decide_nat = decide_same nat_cmp nat_cmp_total nat_same
 
 pub decide_elem : (e f : Elem) → Decided (e ≡ f)
@@ -158,22 +157,6 @@ decide_stand (o ∷ rest) (e ∷ es) = decide_more o rest (e ∷ es) es (λ k. r
 
 -- ---- candidates
 
-contains_map : {X Y : Type 0} (f : X → Y) (xs : List X) (x : X) → Contains xs x → Contains (map f xs) (f x)
-contains_map f [] x c = absurd (omega (arith, c.1))
-contains_map {X} {Y} f (y ∷ ys) x c = by (contains_cases y ys x c) (contains_map f ys x)
-  where
-    by : (x ≡ y) ⊎ Contains ys x → (Contains ys x → Contains (map f ys) (f x)) → Contains (f y ∷ map f ys) (f x)
-    by (inl e) rec = (0, omega arith, ap f (sym e))
-    by (inr d) rec = contains_later (f y) (map f ys) (f x) (rec d)
-
-contains_flat : {X Y : Type 0} (f : X → List Y) (xs : List X) (x : X) (y : Y) → Contains xs x → Contains (f x) y → Contains (flat_map f xs) y
-contains_flat f [] x y c there = absurd (omega (arith, c.1))
-contains_flat {X} {Y} f (z ∷ zs) x y c there = by (contains_cases z zs x c) (λ d. contains_flat f zs x y d there)
-  where
-    by : (x ≡ z) ⊎ Contains zs x → (Contains zs x → Contains (flat_map f zs) y) → Contains (f z ++ flat_map f zs) y
-    by (inl e) rec = Contains-append_left (f z) (flat_map f zs) y (subst (λ (w : X). Contains (f w) y) e there)
-    by (inr d) rec = Contains-append_right (f z) (flat_map f zs) y (rec d)
-
 -- every list of so many of these
 abbrev choices : ℕ → List Elem → List (List Elem)
 choices zero es = [] ∷ []
@@ -184,9 +167,9 @@ each_choice zero es [] same from = (0, omega arith, refl)
 each_choice zero es (e ∷ chosen) same from = absurd (omega arith)
 each_choice (suc n) es [] same from = absurd (omega arith)
 each_choice (suc n) es (e ∷ chosen) same from =
-    contains_flat (λ others. map (λ f. f ∷ others) es) (choices n es) chosen (e ∷ chosen)
+    flat_there (λ others. map (λ f. f ∷ others) es) (choices n es) chosen (e ∷ chosen)
     (each_choice n es chosen (omega arith) (λ f c. from f (contains_later e chosen f c)))
-    (contains_map (λ f. f ∷ chosen) es e (from e (contains_first e chosen)))
+    (map_contains (λ f. f ∷ chosen) es e (from e (contains_first e chosen)))
 
 -- the elements that stand in rows
 abbrev stand_in : TableRow → List Elem
@@ -194,7 +177,7 @@ stand_in (ConceptRow c e) = e ∷ []
 stand_in (RoleRow p e f) = e ∷ f ∷ []
 
 in_table : (table : List TableRow) (row : TableRow) (e : Elem) → Contains table row → Contains (stand_in row) e → Contains (flat_map stand_in table) e
-in_table table row e there at = contains_flat stand_in table row e there at
+in_table table row e there at = flat_there stand_in table row e there at
 
 edge_from : (b : Bool) (p : ℕ) (e f : Elem) → Contains (stand_in (turned_row b p e f)) e
 edge_from false p e f = (0, omega arith, refl)

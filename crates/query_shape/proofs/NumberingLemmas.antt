@@ -14,21 +14,21 @@ use Rattle.dl_base.specs.declared.query.Term.{Term}
 use Rattle.dl_base.specs.declared.query.Atom.{Atom}
 use Rattle.dl_base.specs.declared.query.Atom.TheVariants as atom
 use Rattle.dl_base.proofs.RisingLemmas.{contains_cases, contains_later, contains_first}
-use Rattle.query_shape.specs.Shape.{Occur, no_term, known_term, new_term, Numbers, IsShapeOf, Layout, IsLayout, IsTermOf, IsBelow}
+use Rattle.query_shape.specs.Shape.{Occur, no_term, known_term, new_term, NumbersAtom, IsShapeOf, Layout, IsLayout, IsTermOf, IsBelow}
 use Rattle.query_shape.specs.ShapeFault.{IsKnown, IsAtomFault, IsFirstFault, IsShapeFault}
-use Rattle.query_shape.specs.Numbering.{IsWith, IsNumbered, IsNumberedAtom}
+use Rattle.query_shape.specs.Numbering.{IsWith, NumbersTerm, IsNumberedAtom}
 use Rattle.query_shape.specs.declared.layout.ShapeAtom.{ShapeAtom}
 use Rattle.query_shape.specs.declared.numbering.ShapeError.{ShapeError}
 use Rattle.query_shape.specs.declared.numbering.ShapeError.TheVariants as errors
 use Rattle.query_shape.specs.declared.layout.ShapeAtom.TheVariants as shape
-use Rattle.query_shape.proofs.PlaceLemmas.{member_at, none_past, place_stays, last_place, one_place, no_more, zip_push, zip_weaker, zip_length}
+use Rattle.dl_base.proofs.PlaceLemmas.{member_at, none_past, place_stays, last_place, one_place, no_more, zip_push, zip_weaker, zip_length}
 
 -- ---- one term
 
-pub numbered_known : (old new : List Term) (t : Term) (n : ℕ) → new ≡ old → slice_get old n ≡ Some t → IsNumbered old t new n
+pub numbered_known : (old new : List Term) (t : Term) (n : ℕ) → new ≡ old → slice_get old n ≡ Some t → NumbersTerm old t new n
 numbered_known old new t n same at = record { with_it = inl (same, member_at old n t at); there = rw same at }
 
-pub numbered_new : (old new : List Term) (t : Term) → new ≡ old ++ t ∷ [] → (Contains old t → ⊥) → IsNumbered old t new (length old)
+pub numbered_new : (old new : List Term) (t : Term) → new ≡ old ++ t ∷ [] → (Contains old t → ⊥) → NumbersTerm old t new (length old)
 numbered_new old new t is absent = record { with_it = inr (is, absent); there = rw is (last_place old t) }
 
 occur_with : (all old new : List Term) (t : Term) → IsWith old t new → Occur all old → Occur (all ++ t ∷ []) new
@@ -39,23 +39,16 @@ added_with : (old new : List Term) (t : Term) → IsWith old t new → (added : 
 added_with old new t (inl (same, there)) = ([], same ∙ sym (append-nil old))
 added_with old new t (inr (is, absent)) = (t ∷ [], is)
 
-pub grown_by_one : (old new : List Term) (t : Term) (n : ℕ) → IsNumbered old t new n → length new ≤ length old + 1
-grown_by_one old new t n i = by i.with_it
-  where
-    by : IsWith old t new → length new ≤ length old + 1
-    by (inl (same, there)) = rw same (omega arith)
-    by (inr (is, absent)) = rw is (rw length-append (omega arith))
-
 -- ---- one atom
 
-pub numbered_concept : (o : Terminology) (old new : List Term) (name : List ℕ) (t : Term) (c n : ℕ) → slice_get o.concepts c ≡ Some name → IsNumbered old t new n
+pub numbered_concept : (o : Terminology) (old new : List Term) (name : List ℕ) (t : Term) (c n : ℕ) → slice_get o.concepts c ≡ Some name → NumbersTerm old t new n
     → IsNumberedAtom o old (atom.Concept name t) new (shape.Concept c n)
 numbered_concept o old new name t c n at i =
     let added = added_with old new t i.with_it in
     record { added = added.0; last = added.1; occur = λ all before. occur_with all old new t i.with_it before; numbers = (at, i.there) }
 
 pub numbered_role : (o : Terminology) (old mid new : List Term) (name : List ℕ) (t u : Term) (r : Role) (n m : ℕ) → slice_get o.roles r.name ≡ Some name → r.inverse ≡ false
-    → IsNumbered old t mid n → IsNumbered mid u new m → IsNumberedAtom o old (atom.Role name t u) new (shape.Role r n m)
+    → NumbersTerm old t mid n → NumbersTerm mid u new m → IsNumberedAtom o old (atom.Role name t u) new (shape.Role r n m)
 numbered_role o old mid new name t u r n m at direct i j =
     let first = added_with old mid t i.with_it in
     let second = added_with mid new u j.with_it in
@@ -70,7 +63,7 @@ numbered_role o old mid new name t u r n m at direct i j =
 
 -- ---- the atoms so far
 
-numbers_more : (o : Terminology) (ts added : List Term) (a : Atom) (s : ShapeAtom) → Numbers o ts a s → Numbers o (ts ++ added) a s
+numbers_more : (o : Terminology) (ts added : List Term) (a : Atom) (s : ShapeAtom) → NumbersAtom o ts a s → NumbersAtom o (ts ++ added) a s
 numbers_more o ts added (atom.Concept name t) (shape.Concept c n) h = (h.0, place_stays ts added n t h.1)
 numbers_more o ts added (atom.Role name t u) (shape.Role r n m) h = (h.0, h.1, place_stays ts added n t h.2, place_stays ts added m u h.3)
 numbers_more o ts added (atom.Concept name t) (shape.Role r n m) h = absurd h
@@ -95,11 +88,11 @@ shape_more o atoms k a ts new ss s below at so_far i =
     let with_last : take (k + 1) atoms ≡ take k atoms ++ a ∷ [] = take_more atoms k a below ∙ ap (λ (b : Atom). take k atoms ++ b ∷ []) (sym at) in
     let all : flat_map terms_of (take (k + 1) atoms) ≡ flat_map terms_of (take k atoms) ++ terms_of a =
     terms_more atoms k a below ∙ ap (λ (b : Atom). flat_map terms_of (take k atoms) ++ terms_of b) (sym at) in
-    let kept : AllZip (Numbers o new) (take k atoms) ss =
-    rw i.last (zip_weaker (Numbers o ts) (Numbers o (ts ++ i.added)) (λ b t h. numbers_more o ts i.added b t h) (take k atoms) ss so_far.atoms_are) in
+    let kept : AllZip (NumbersAtom o new) (take k atoms) ss =
+    rw i.last (zip_weaker (NumbersAtom o ts) (NumbersAtom o (ts ++ i.added)) (λ b t h. numbers_more o ts i.added b t h) (take k atoms) ss so_far.atoms_are) in
     record {
       terms_are = rw all (i.occur (flat_map terms_of (take k atoms)) so_far.terms_are);
-      atoms_are = rw with_last (zip_push (Numbers o new) (take k atoms) ss a s kept i.numbers);
+      atoms_are = rw with_last (zip_push (NumbersAtom o new) (take k atoms) ss a s kept i.numbers);
     }
 
 pub shape_all : (o : Terminology) (q : Question) (k : ℕ) (ts : List Term) (ss : List ShapeAtom) → length q.atoms ≤ k → IsShapeUpTo o q.atoms k ts ss
@@ -137,7 +130,7 @@ few_terms o atoms k ts ss h =
 
 -- ---- members
 
-occur_from : {all distinct : List Term} → Occur all distinct → (t : Term) → Contains distinct t → Contains all t
+pub occur_from : {all distinct : List Term} → Occur all distinct → (t : Term) → Contains distinct t → Contains all t
 occur_from no_term t c = c
 occur_from (known_term {all = before} {distinct = kept} u o there) t c = Contains-append_left before (u ∷ []) t (occur_from o t c)
 occur_from (new_term {all = before} {distinct = kept} u o absent) t c = by (Contains-push_cases kept u t c) (λ d. occur_from o t d)
@@ -154,7 +147,7 @@ occur_distinct (new_term {all = before} {distinct = kept} u o absent) =
     all_pairs_push (λ t v. t ≢ v) kept u (occur_distinct o) (λ k d below e. absent (k, below, get_or_default kept k u d below ∙ e))
 
 -- the shape atom of an atom in which the term is has its number
-number_in : (o : Terminology) (ts : List Term) (a : Atom) (s : ShapeAtom) (t : Term) (k : ℕ) → AllPairs (λ t u. t ≢ u) ts → Numbers o ts a s → Contains (terms_of a) t → slice_get ts k ≡ Some t
+number_in : (o : Terminology) (ts : List Term) (a : Atom) (s : ShapeAtom) (t : Term) (k : ℕ) → AllPairs (λ t u. t ≢ u) ts → NumbersAtom o ts a s → Contains (terms_of a) t → slice_get ts k ≡ Some t
     → IsTermOf k s
 number_in o ts (atom.Concept name u) (shape.Concept c n) t k distinct h there at = by (contains_cases u [] t there)
   where
@@ -173,7 +166,7 @@ number_in o ts (atom.Role name u v) (shape.Role r n m) t k distinct h there at =
 number_in o ts (atom.Concept name u) (shape.Role r n m) t k distinct h there at = absurd h
 number_in o ts (atom.Role name u v) (shape.Concept c n) t k distinct h there at = absurd h
 
-used_in : (o : Terminology) (ts : List Term) (atoms : List Atom) (ss : List ShapeAtom) (t : Term) (k : ℕ) → AllPairs (λ t u. t ≢ u) ts → AllZip (Numbers o ts) atoms ss → slice_get ts k ≡ Some t
+used_in : (o : Terminology) (ts : List Term) (atoms : List Atom) (ss : List ShapeAtom) (t : Term) (k : ℕ) → AllPairs (λ t u. t ≢ u) ts → AllZip (NumbersAtom o ts) atoms ss → slice_get ts k ≡ Some t
     → Contains (flat_map terms_of atoms) t → (s : ShapeAtom) × Contains ss s × IsTermOf k s
 used_in o ts [] ss t k distinct all at there = absurd (omega (arith, there.1))
 used_in o ts (a ∷ as') [] t k distinct all at there = absurd all
@@ -184,13 +177,13 @@ used_in o ts (a ∷ as') (s ∷ ss) t k distinct all at there = by (Contains-app
     by (inl here) rec = (s, contains_first s ss, number_in o ts a s t k distinct all.0 here at)
     by (inr later) rec = let found : (u : ShapeAtom) × Contains ss u × IsTermOf k u = rec later in (found.0, contains_later s ss found.0 found.1, found.2)
 
-below_of : (o : Terminology) (ts : List Term) (a : Atom) (s : ShapeAtom) → Numbers o ts a s → IsBelow (length ts) s
+below_of : (o : Terminology) (ts : List Term) (a : Atom) (s : ShapeAtom) → NumbersAtom o ts a s → IsBelow (length ts) s
 below_of o ts (atom.Concept name u) (shape.Concept c n) h = slice_get_within ts n u h.1
 below_of o ts (atom.Role name u v) (shape.Role r n m) h = (slice_get_within ts n u h.2, slice_get_within ts m v h.3)
 below_of o ts (atom.Concept name u) (shape.Role r n m) h = absurd h
 below_of o ts (atom.Role name u v) (shape.Concept c n) h = absurd h
 
-all_below : (o : Terminology) (ts : List Term) (atoms : List Atom) (ss : List ShapeAtom) → AllZip (Numbers o ts) atoms ss → All (IsBelow (length ts)) ss
+all_below : (o : Terminology) (ts : List Term) (atoms : List Atom) (ss : List ShapeAtom) → AllZip (NumbersAtom o ts) atoms ss → All (IsBelow (length ts)) ss
 all_below o ts [] [] all = All-nil (IsBelow (length ts))
 all_below o ts [] (s ∷ ss) all = absurd all
 all_below o ts (a ∷ as') [] all = absurd all
@@ -199,7 +192,7 @@ all_below o ts (a ∷ as') (s ∷ ss) all = All-cons (IsBelow (length ts)) s ss 
 -- a query's shape is a layout
 pub layout_of : (o : Terminology) (q : Question) (s : Layout) → IsQuery q → IsShapeOf o q s → IsLayout s
 layout_of o q s is h =
-    let same : length s.atoms ≡ length q.atoms = zip_length (Numbers o s.terms) q.atoms s.atoms h.atoms_are in
+    let same : length s.atoms ≡ length q.atoms = zip_length (NumbersAtom o s.terms) q.atoms s.atoms h.atoms_are in
     let distinct : AllPairs (λ t u. t ≢ u) s.terms = occur_distinct h.terms_are in
     let few : length s.terms ≤ length is.distinct.few =
     no_more s.terms is.distinct.few distinct (λ t c. All-contains (Contains is.distinct.few) (terms q) t is.distinct.each (occur_from h.terms_are t c)) in
@@ -221,13 +214,13 @@ layout_of o q s is h =
 
 -- ---- names that the ontology lacks
 
-known_of : (o : Terminology) (ts : List Term) (a : Atom) (s : ShapeAtom) → Numbers o ts a s → IsKnown o a
+pub known_of : (o : Terminology) (ts : List Term) (a : Atom) (s : ShapeAtom) → NumbersAtom o ts a s → IsKnown o a
 known_of o ts (atom.Concept name u) (shape.Concept c n) h = member_at o.concepts c name h.0
 known_of o ts (atom.Role name u v) (shape.Role r n m) h = member_at o.roles r.name name h.0
 known_of o ts (atom.Concept name u) (shape.Role r n m) h = absurd h
 known_of o ts (atom.Role name u v) (shape.Concept c n) h = absurd h
 
-all_known : (o : Terminology) (ts : List Term) (atoms : List Atom) (ss : List ShapeAtom) → AllZip (Numbers o ts) atoms ss → All (IsKnown o) atoms
+all_known : (o : Terminology) (ts : List Term) (atoms : List Atom) (ss : List ShapeAtom) → AllZip (NumbersAtom o ts) atoms ss → All (IsKnown o) atoms
 all_known o ts [] [] all = All-nil (IsKnown o)
 all_known o ts [] (s ∷ ss) all = absurd all
 all_known o ts (a ∷ as') [] all = absurd all

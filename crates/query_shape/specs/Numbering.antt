@@ -4,7 +4,7 @@ use Rattle.dl_base.specs.Ontology.{Terminology}
 use Rattle.dl_base.specs.Query.{terms_of}
 use Rattle.dl_base.specs.declared.query.Term.{Term}
 use Rattle.dl_base.specs.declared.query.Atom.{Atom}
-use Rattle.query_shape.specs.Shape.{Occur, Numbers}
+use Rattle.query_shape.specs.Shape.{Occur, NumbersAtom}
 use Rattle.query_shape.specs.declared.layout.ShapeAtom.{ShapeAtom}
 
 -- the terms are as they were where they have this one, and else it goes last
@@ -12,7 +12,7 @@ abbrev pub IsWith : List Term → Term → List Term → Type 0
 IsWith old t new = ((new ≡ old) × Contains old t) ⊎ ((new ≡ old ++ t ∷ []) × (Contains old t → ⊥))
 
 -- the number of the term among the terms with it
-pub record IsNumbered (old : List Term) (t : Term) (new : List Term) (number : ℕ) : Type 0 where
+pub record NumbersTerm (old : List Term) (t : Term) (new : List Term) (number : ℕ) : Type 0 where
   pub with_it : IsWith old t new
   pub there : slice_get new number ≡ Some t
 
@@ -21,4 +21,4 @@ pub record IsNumberedAtom (o : Terminology) (old : List Term) (a : Atom) (new : 
   pub added : List Term
   pub last : new ≡ old ++ added
   pub occur : (all : List Term) → Occur all old → Occur (all ++ terms_of a) new
-  pub numbers : Numbers o new a s
+  pub numbers : NumbersAtom o new a s

@@ -23,16 +23,16 @@ pub data Occur : List Term → List Term → Type 0 where
   new_term : {all distinct : List Term} (t : Term) → Occur all distinct → (Contains distinct t → ⊥) → Occur (all ++ t ∷ []) (distinct ++ t ∷ [])
 
 -- the atom by the place of its name and the numbers of its terms
-abbrev pub Numbers : Terminology → List Term → Atom → ShapeAtom → Type 0
-Numbers o ts (atom.Concept name t) (shape.Concept c n) = (slice_get o.concepts c ≡ Some name) × (slice_get ts n ≡ Some t)
-Numbers o ts (atom.Role name t u) (shape.Role r n m) = (slice_get o.roles r.name ≡ Some name) × (r.inverse ≡ false) × (slice_get ts n ≡ Some t) × (slice_get ts m ≡ Some u)
-Numbers o ts (atom.Concept name t) (shape.Role r n m) = ⊥
-Numbers o ts (atom.Role name t u) (shape.Concept c n) = ⊥
+abbrev pub NumbersAtom : Terminology → List Term → Atom → ShapeAtom → Type 0
+NumbersAtom o ts (atom.Concept name t) (shape.Concept c n) = (slice_get o.concepts c ≡ Some name) × (slice_get ts n ≡ Some t)
+NumbersAtom o ts (atom.Role name t u) (shape.Role r n m) = (slice_get o.roles r.name ≡ Some name) × (r.inverse ≡ false) × (slice_get ts n ≡ Some t) × (slice_get ts m ≡ Some u)
+NumbersAtom o ts (atom.Concept name t) (shape.Role r n m) = ⊥
+NumbersAtom o ts (atom.Role name t u) (shape.Concept c n) = ⊥
 
 -- the shape of the query in the ontology
 pub record IsShapeOf (o : Terminology) (q : Question) (s : Layout) : Type 0 where
   pub terms_are : Occur (terms q) s.terms
-  pub atoms_are : AllZip (Numbers o s.terms) q.atoms s.atoms
+  pub atoms_are : AllZip (NumbersAtom o s.terms) q.atoms s.atoms
 
 -- the term of this number is in the atom
 abbrev pub IsTermOf : ℕ → ShapeAtom → Type 0

@@ -2,7 +2,7 @@
 ghost use Rattle.std.specs.Prelude.{◌≡◌, ◌<◌, ◌+◌, ◌^◌, false, length, slice_get, Some, Contains, IfOk, IfErr, MatchOption};
 ghost use Rattle.query_shape.specs.Shape.{IsShapeOf};
 ghost use Rattle.query_shape.specs.ShapeFault.{IsAtomFault, IsConceptFault, IsRoleFault, IsShapeFault};
-ghost use Rattle.query_shape.specs.Numbering.{IsNumbered, IsNumberedAtom};
+ghost use Rattle.query_shape.specs.Numbering.{NumbersTerm, IsNumberedAtom};
 
 use crate::{Shape, ShapeAtom};
 use dl_base::{Atom, Items, Name, Ontology, Query, Role, Term};
@@ -93,7 +93,7 @@ fn role_place(alloc: Global, o: &Ontology, name: &Name) -> Result<Role, ShapeErr
 /// The number of a term, which goes last where it is new.
 fn number(alloc: Global, terms: &mut Items<Term>, term: &Term) -> Result<u32, AllocError>
     requires { length terms.old < 2 ^ 32 }
-    ensures { IfOk result (IsNumbered terms.old term.now terms.new) }
+    ensures { IfOk result (NumbersTerm terms.old term.now terms.new) }
 {
     if let Some(number) = known_number(terms.items(), term) {
         return Ok(number);

@@ -1,5 +1,8 @@
 //! Queries of two atoms beside their shapes and the names that they lack.
 
+ghost use Rattle.std.specs.Prelude.{◌≡◌, ℕ, List, IfOk};
+ghost use Rattle.dl_base.specs.Names.{IsVariableName};
+
 use super::*;
 use dl_base::{Atom, Axiom, Items, Name, NameError, Names, Ontology, Query, Term};
 use std::alloc::{AllocError, Global};
@@ -32,26 +35,47 @@ fn a_and_r(alloc: Global) -> Result<Ontology, AllocError> {
     }
 }
 
-/// The query of `concept(?x)` and `role(from, ?x)`.
-fn two_atoms(alloc: Global, concept: &[u8], role: &[u8], from: Term) -> Result<Query, AllocError> {
+/// What the role of the second atom leads from.
+#[derive(Clone, Copy)]
+enum Start {
+    /// The variable y.
+    Another,
+    /// The individual x.
+    Named,
+    /// The variable x, to which it leads.
+    Same,
+}
+
+fn start_term(alloc: Global, start: Start) -> Result<Term, AllocError>
+    ensures { IfOk result (λ t. (v : List ℕ) → t ≡ Term.Var v → IsVariableName v) }
+{
+    match start {
+        Start::Another => Ok(Term::Var(Name::from_word(alloc, b"y")?)),
+        Start::Named => Ok(Term::Named(Name::from_word(alloc, b"x")?)),
+        Start::Same => Ok(Term::Var(Name::from_word(alloc, b"x")?)),
+    }
+}
+
+/// The query of `concept(?x)` and `role(start, ?x)`.
+fn two_atoms(
+    alloc: Global,
+    concept: &[u8],
+    role: &[u8],
+    start: Start,
+) -> Result<Query, AllocError> {
+    let from = start_term(alloc, start)?;
+    let x = Name::from_word(alloc, b"x")?;
     let mut atoms = Items::new(alloc);
     atoms.push(Atom::Concept {
         name: name(alloc, concept)?,
-        term: Term::Var(name(alloc, b"x")?),
+        term: Term::Var(x.copy(alloc)?),
     })?;
     atoms.push(Atom::Role {
         name: name(alloc, role)?,
         from,
-        to: Term::Var(name(alloc, b"x")?),
+        to: Term::Var(x),
     })?;
     Ok(Query::new(Items::new(alloc), atoms))
-}
-
-/// The shape of a query of two atoms in the ontology of A and r.
-fn shape_of(alloc: Global, concept: &[u8], role: &[u8], from: Term) -> Result<Shape, ShapeError> {
-    let ontology = a_and_r(alloc)?;
-    let query = two_atoms(alloc, concept, role, from)?;
-    shape(alloc, &query, &ontology)
 }
 
 fn first_byte(name: &Name) -> u8 {
@@ -61,66 +85,58 @@ fn first_byte(name: &Name) -> u8 {
     }
 }
 
-/// The first byte of the name that is told, or nothing where there is a shape.
-fn told(found: Result<Shape, ShapeError>) -> Result<Option<u8>, AllocError> {
-    match found {
-        Ok(_) => Ok(None),
-        Err(ShapeError::UnknownConcept(name)) => Ok(Some(first_byte(&name))),
-        Err(ShapeError::UnknownRole(name)) => Ok(Some(first_byte(&name))),
-        Err(ShapeError::NoMemory) => Err(AllocError),
-    }
+/// What is found of a query: the first byte of the name that is told, or how many terms the shape has, and the numbers
+/// of its last role atom's terms.
+#[derive(Debug, PartialEq, Eq, Clone, Copy)]
+enum Found {
+    Unknown(u8),
+    Numbers(usize, u32, u32),
 }
 
-const NAMES: [(&[u8], &[u8], Option<u8>); 5] = [
-    (b"A", b"r", None),
-    (b"B", b"r", Some(b'B')),
-    (b"A", b"s", Some(b's')),
-    (b"C", b"t", Some(b'C')),
-    (b"r", b"A", Some(b'r')),
-];
-
-#[test]
-fn the_first_unknown_name_is_told(rt: HostRuntime) -> Result<(), Fail> {
-    for (concept, role, want) in NAMES {
-        let from = Term::Var(name(rt.alloc(), b"y")?);
-        let found = shape_of(rt.alloc(), concept, role, from);
-        assert_eq!(rt; told(found)?, want, "at {concept:?} {role:?}");
-    }
-    Ok(())
-}
-
-/// How many terms there are, and the numbers of the last role atom's terms.
-fn numbers(shape: &Shape) -> (usize, u32, u32) {
+fn numbers(shape: &Shape) -> Found {
     let mut ends = (0, 0);
     for atom in shape.atoms() {
         if let ShapeAtom::Role { from, to, .. } = atom {
             ends = (*from, *to);
         }
     }
-    (shape.terms(), ends.0, ends.1)
+    Found::Numbers(shape.terms(), ends.0, ends.1)
 }
 
-fn numbers_from(alloc: Global, from: Term) -> Result<(usize, u32, u32), AllocError> {
-    match shape_of(alloc, b"A", b"r", from) {
-        Ok(found) => Ok(numbers(&found)),
-        Err(_) => Err(AllocError),
+/// What is found of a query of two atoms in the ontology of A and r.
+fn found_of(alloc: Global, concept: &[u8], role: &[u8], start: Start) -> Result<Found, AllocError> {
+    let ontology = a_and_r(alloc)?;
+    let query = two_atoms(alloc, concept, role, start)?;
+    match shape(alloc, &query, &ontology) {
+        Ok(shape) => Ok(numbers(&shape)),
+        Err(ShapeError::UnknownConcept(name)) => Ok(Found::Unknown(first_byte(&name))),
+        Err(ShapeError::UnknownRole(name)) => Ok(Found::Unknown(first_byte(&name))),
+        Err(ShapeError::NoMemory) => Err(AllocError),
     }
 }
 
 #[test]
-fn terms_are_numbered_as_they_first_occur(rt: HostRuntime) -> Result<(), Fail> {
+fn terms_are_numbered_and_the_first_unknown_name_is_told(rt: HostRuntime) -> Result<(), Fail> {
     let alloc = rt.alloc();
     assert_eq!(rt;
-        numbers_from(alloc, Term::Var(name(alloc, b"y")?))?,
-        (2, 1, 0)
+        found_of(alloc, b"A", b"r", Start::Another)?,
+        Found::Numbers(2, 1, 0)
     );
     assert_eq!(rt;
-        numbers_from(alloc, Term::Named(name(alloc, b"x")?))?,
-        (2, 1, 0)
+        found_of(alloc, b"A", b"r", Start::Named)?,
+        Found::Numbers(2, 1, 0)
     );
     assert_eq!(rt;
-        numbers_from(alloc, Term::Var(name(alloc, b"x")?))?,
-        (1, 0, 0)
+        found_of(alloc, b"A", b"r", Start::Same)?,
+        Found::Numbers(1, 0, 0)
+    );
+    assert_eq!(rt;
+        found_of(alloc, b"A", b"s", Start::Another)?,
+        Found::Unknown(b's')
+    );
+    assert_eq!(rt;
+        found_of(alloc, b"r", b"A", Start::Another)?,
+        Found::Unknown(b'r')
     );
     Ok(())
 }

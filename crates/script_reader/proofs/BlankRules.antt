@@ -70,11 +70,6 @@ Blank c = IsTrue (is_blank c)
 blank_not : (c : ℕ) → is_blank c ≡ true → is_blank c ≡ false → ⊥
 blank_not c is not = true≢false (sym is ∙ not)
 
--- what is blank doesn't begin with another byte
-no_first : (text : List ℕ) → AreBlank text → BeginsUnblank text → text ≡ []
-no_first [] blank first = refl
-no_first (c ∷ text) blank first = absurd (blank_not c blank.0 (first c text refl))
-
 no_last : (text : List ℕ) (x : ℕ) (xs : List ℕ) → AreBlank (x ∷ xs) → EndsUnblank (text ++ x ∷ xs) → ⊥
 no_last text x xs blank ends =
     let m = last_of x xs in

@@ -1,11 +1,10 @@
 -- The reading of a row is exact.
-use Rattle.std.proofs.Common.{◌∙◌, ℕ, Bool, true, false, List, ◌++◌, ap, refl}
+use Rattle.std.proofs.Common.{ℕ, true, false, List, refl}
 use Rattle.grammar.specs.Bytes.{is_name_byte}
 use Rattle.grammar.specs.Grammar.{Grammar, ◌>>=◌, ◌>>◌, ◌∣◌, means}
 use Rattle.grammar.specs.Blanks.{some_blanks}
-use Rattle.grammar.specs.Reading.{next_is}
 use Rattle.grammar.proofs.Exact.{Nothing, Same, same_trans, same_front, same_after, same_or}
-use Rattle.grammar.proofs.Rules.{Reads, FirstIs, first_then, first_or, first_some_blanks, reads_stop, reads_some_blanks, reads_means, reads_or, reads_last, reads_same}
+use Rattle.grammar.proofs.Rules.{Reads, FirstIs, first_then, first_or, first_some_blanks, reads_stop, reads_some_blanks, reads_means, reads_or, reads_last, reads_same, first_nothing}
 use Rattle.grammar.proofs.ByteKinds.{starting_not_blank, blank_not}
 use Rattle.dl_base.specs.Names.{name}
 use Rattle.dl_base.proofs.NameRules.{first_name, reads_name, reads_whole_name}
@@ -23,9 +22,6 @@ by_names = name >>= λ first. some_blanks >> (name >>= λ second. behind_two fir
 
 same_rows : Same by_names row_text
 same_rows = same_trans (same_after (λ first. same_trans (same_after (λ _. same_front)) same_front)) same_front
-
-first_nothing : {V : Type 0} {v : V} {p : ℕ → Bool} → FirstIs (means v) Nothing p false
-first_nothing {V} {v} {p} = record { is = λ t w k s f. ap (next_is p) (ap (λ (a : List ℕ). a ++ k) s.0 ∙ f) }
 
 reads_third : (first second : List ℕ) {text : List ℕ} → Reads (behind_two first second) Nothing text (third_at first second text)
 unfolding third_at

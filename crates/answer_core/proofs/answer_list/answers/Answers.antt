@@ -1,7 +1,7 @@
 use Rattle.std.proofs.Common.{◌∙◌, ap, refl, sym, subst, length, List, ℕ}
 use Rattle.answer_core.specs.Keys.{AreKeys}
 use Rattle.answer_core.specs.Binding.{BoundQuery, IsBoundTo, IsFixedTerm}
-use Rattle.answer_core.proofs.ListLemmas.{zip_long}
+use Rattle.dl_base.proofs.PlaceLemmas.{zip_length}
 use Rattle.answer_core.proofs.FoundLemmas.{no_keys, keys_result, answers_result, are_answers, found_within, found_as}
 use Rattle.answer_core.proofs.answer_list.answers.Goals as goal
 
@@ -19,7 +19,7 @@ returns-then-not-has_names-clause-certain g c = λ o rows generation q terminolo
 
 pub found_keys-requires-clause-fixed : goal.found_keys-requires-clause-fixed
 found_keys-requires-clause-fixed g c =
-    ap length c.as_slice.ensures.value ∙ sym (zip_long (IsFixedTerm c.args.individuals.now) c.b.inside.shape.terms c.in_ok-fixed.fixed.items c.in_ok-fixed.ensures)
+    ap length c.as_slice.ensures.value ∙ zip_length (IsFixedTerm c.args.individuals.now) c.b.inside.shape.terms c.in_ok-fixed.fixed.items c.in_ok-fixed.ensures
 
 pub spelled-requires : goal.spelled-requires
 spelled-requires g c =

@@ -2,7 +2,7 @@ use Rattle.std.proofs.Common.{◌↔◌, ◌⊎◌, ◌<◌, ◌∙◌, sym, sub
 use Rattle.dl_base.specs.declared.element.Elem.{Elem}
 use Rattle.join_ops.specs.Joins.{IsNext}
 use Rattle.answer_core.specs.Binding.{BoundQuery}
-use Rattle.answer_core.specs.Found.{Reads}
+use Rattle.answer_core.specs.Found.{AllStand}
 use Rattle.answer_core.proofs.LoopLemmas.{found_none, next_falls, next_places, found_more, found_all}
 use Rattle.answer_core.proofs.answer_list.found_keys.Goals as goal
 
@@ -33,7 +33,7 @@ matches-preserved g c =
     let next : IsNext (g.T.Tables.rows c.args.t.now) c.matches.invariant.1.left c.advance.new.self = c.matches-test.ensures c.matches.invariant.1.left c.matches.invariant.1.goes_on in (
       c.matches.invariant.0,
       found_more (g.T.Tables.rows c.args.t.now) b c.args.fixed.now c.args.count c.matches.matches c.matches.found c.matches.invariant.1 c.advance.new.self next c.add_key.new.found
-          (subst (λ (images : List Elem). (numbers : List ℕ) → Contains c.add_key.new.found numbers ↔ (Contains c.matches.found numbers ⊎ Reads images c.args.places.now c.args.count numbers))
+          (subst (λ (images : List Elem). (numbers : List ℕ) → Contains c.add_key.new.found numbers ↔ (Contains c.matches.found numbers ⊎ AllStand images c.args.places.now c.args.count numbers))
           (c.images.ensures next.images next.stands) c.in_ok-add_key.ensures),
     )
 

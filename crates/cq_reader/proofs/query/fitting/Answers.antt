@@ -24,7 +24,7 @@ new-requires c =
     let atoms = subst (λ (l : List Atom). length l ≤ 24) c.items-else-items-gt-LIMIT.ensures c.if-items-gt-LIMIT-2.false in
     let few = subst (λ (l : List Term). length l ≤ 24) c.items-3.ensures c.if-items-gt-LIMIT-3.false in
     let bound = subst (λ (l : List (List ℕ)). All (λ v. Contains c.items-5.result.now (Var v)) l) c.items-4.ensures c.in-None.ensures in
-    query_of q found distinct (small_of q found distinct atoms answers few) c.requires (subst (λ (l : List Term). All (λ v. Contains l (Var v)) c.args.draft.answers) c.items-5.ensures bound)
+    query_of q found distinct (small_of q found distinct atoms answers few) c.requires.some c.requires.variables (subst (λ (l : List Term). All (λ v. Contains l (Var v)) c.args.draft.answers) c.items-5.ensures bound)
 
 pub returns-in_ok-var-in-Some-clause-refused : goal.returns-in_ok-var-in-Some-clause-refused
 returns-in_ok-var-in-Some-clause-refused c =

@@ -3,12 +3,14 @@ use Rattle.dl_base.specs.Query.{Question}
 use Rattle.grammar.proofs.Rules.{found, fault}
 use Rattle.cq_reader.proofs.QueryRules.{reads_query}
 use Rattle.cq_reader.proofs.LimitRules.{means_of, some_atoms, passes, refuses}
+use Rattle.cq_reader.proofs.VariableRules.{bare_variables}
 use Rattle.cq_reader.proofs.query.read_query.Goals as goal
 
 pub fitting-requires : goal.fitting-requires
 fitting-requires c =
     let q : Question = record { answers = c.in-Ok.draft.answers; atoms = c.in-Ok.draft.atoms } in
-    some_atoms c.args.text.now q (found q reads_query c.in-Ok.ensures).is
+    let is = (found q reads_query c.in-Ok.ensures).is in
+    record { some = some_atoms c.args.text.now q is; variables = bare_variables c.args.text.now q is }
 
 pub overflow_sub-result : goal.overflow_sub-result
 overflow_sub-result c =

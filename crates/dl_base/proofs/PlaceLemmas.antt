@@ -1,6 +1,8 @@
--- Places of lists of distinct items.
-use Rattle.std.proofs.Common.{◌≡◌, ◌≢◌, ℕ, zero, suc, ◌<◌, ◌≤◌, ◌⊎◌, inl, inr, List, [], ◌∷◌, ◌++◌, length, get_or, Some, None, slice_get, AllPairs, Contains, refl, sym, ◌∙◌, ap, arith}
+-- Members and places of lists, and lists that go together.
+use Rattle.std.proofs.Common.{◌≡◌, ◌≢◌, ℕ, zero, suc, ◌<◌, ◌≤◌, ◌⊎◌, inl, inr, List, [], ◌∷◌, ◌++◌, length, map, get_or, Some, None, slice_get, AllPairs, Contains, refl, sym, ◌∙◌, ap, subst, arith}
+use Rattle.std.specs.Prelude.{flat_map}
 use Rattle.std.specs.List.{AllZip}
+use Rattle.std.proofs.lemmas.List.Elements.{Contains-append_left, Contains-append_right, Contains-append_cases}
 use Rattle.std.proofs.lemmas.Option.{slice_get_within, get_or_from_slice_get, slice_get-get_or}
 use Rattle.dl_base.proofs.RisingLemmas.{contains_cases, contains_later, contains_first}
 
@@ -17,6 +19,9 @@ pub none_past : {X : Type 0} (xs : List X) (k : ℕ) → slice_get xs k ≡ None
 none_past [] k e = omega arith
 none_past (y ∷ xs) zero e = absurd cc
 none_past (y ∷ xs) (suc k) e = let rest : length xs ≤ k = none_past xs k e in omega arith
+
+pub some_same : {X : Type 0} {x y : X} → Some x ≡ Some y → x ≡ y
+some_same e = cc
 
 -- places in front of more items
 pub place_stays : {X : Type 0} (xs ys : List X) (k : ℕ) (x : X) → slice_get xs k ≡ Some x → slice_get (xs ++ ys) k ≡ Some x
@@ -113,3 +118,34 @@ zip_right {A} {B} R (x ∷ xs) (y ∷ ys) all b c = by (contains_cases y ys b c)
     by : (b ≡ y) ⊎ Contains ys b → (Contains ys b → (a : A) × Contains xs a × R a b) → (a : A) × Contains (x ∷ xs) a × R a b
     by (inl e) rec = (x, contains_first x xs, rw e all.0)
     by (inr d) rec = let found : (a : A) × Contains xs a × R a b = rec d in (found.0, contains_later x xs found.0 found.1, found.2)
+
+-- ---- lists made from lists
+
+pub map_contains : {X Y : Type 0} (f : X → Y) (xs : List X) (x : X) → Contains xs x → Contains (map f xs) (f x)
+map_contains f [] x c = absurd (omega (arith, c.1))
+map_contains f (y ∷ ys) x c = elim (contains_cases y ys x c) [
+  | inl e ↦ subst (λ (z : _). Contains (map f (y ∷ ys)) (f z)) (sym e) (contains_first (f y) (map f ys))
+  | inr d ↦ contains_later (f y) (map f ys) (f x) (map_contains f ys x d)
+]
+
+pub map_from : {X Y : Type 0} (f : X → Y) (xs : List X) (y : Y) → Contains (map f xs) y → (x : X) × Contains xs x × (y ≡ f x)
+map_from f [] y c = absurd (omega (arith, c.1))
+map_from f (x ∷ xs) y c = elim (contains_cases (f x) (map f xs) y c) [
+  | inl e ↦ (x, contains_first x xs, e)
+  | inr d ↦ let found = map_from f xs y d in (found.0, contains_later x xs found.0 found.1, found.2)
+]
+
+-- what a part has is in the whole, and what is in the whole some part has
+pub flat_there : {X Y : Type 0} (f : X → List Y) (xs : List X) (x : X) (y : Y) → Contains xs x → Contains (f x) y → Contains (flat_map f xs) y
+flat_there f [] x y c d = absurd (omega (arith, c.1))
+flat_there f (z ∷ zs) x y c d = elim (contains_cases z zs x c) [
+  | inl e ↦ Contains-append_left (f z) (flat_map f zs) y (subst (λ (w : _). Contains (f w) y) e d)
+  | inr rest ↦ Contains-append_right (f z) (flat_map f zs) y (flat_there f zs x y rest d)
+]
+
+pub flat_part : {X Y : Type 0} (f : X → List Y) (xs : List X) (y : Y) → Contains (flat_map f xs) y → (x : X) × Contains xs x × Contains (f x) y
+flat_part f [] y c = absurd (omega (arith, c.1))
+flat_part f (z ∷ zs) y c = elim (Contains-append_cases (f z) (flat_map f zs) y c) [
+  | inl d ↦ (z, contains_first z zs, d)
+  | inr d ↦ (let p = flat_part f zs y d in (p.0, contains_later z zs p.0 p.1, p.2))
+]
