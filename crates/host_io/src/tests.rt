@@ -131,10 +131,12 @@ fn keeps_an_area<H: Host>(rt: &impl Abort, host: &mut H) -> Result<bool, Failed>
     put(rt, host, 0, 3, b"xyz")?;
     shorten(rt, host, 0, 5)?;
     settle(host)?;
-    Ok(reads(rt, host, 0, 1, b"bcx")?
-        && reads(rt, host, 0, 4, b"y")?
-        && reads(rt, host, 1, 7, b"")?
-        && length(rt, host, 0)? == 5)
+    Ok(
+        reads(rt, host, 0, 1, b"bcx")?
+            && reads(rt, host, 0, 4, b"y")?
+            && reads(rt, host, 1, 7, b"")?
+            && length(rt, host, 0)? == 5,
+    )
 }
 
 #[test]
