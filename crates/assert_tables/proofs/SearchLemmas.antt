@@ -13,7 +13,7 @@ use Rattle.std.proofs.lemmas.Bool.{cases_lt}
 use Rattle.std.proofs.lemmas.Bool.Decides.{nat_tests}
 use Rattle.dl_base.specs.declared.row.Row.{Row}
 use Rattle.dl_base.specs.declared.row.Row.TheVariants as row
-use Rattle.assert_tables.specs.Rows.{IsBehind, IsNamedIn, IsNextIndividual, IsNextOf}
+use Rattle.assert_tables.specs.Rows.{IsRowBehind, IsNamedIn, IsNextIndividual, IsNextOf}
 use Rattle.dl_base.specs.Rows.{numbered_row_cmp}
 use Rattle.assert_tables.specs.Mentions.{AreMentions, IsFrom, IsLeastFrom, IsLow, mention_cmp, rows_of, start_at}
 use Rattle.assert_tables.specs.contracts.row_set.MentionOrd.TheImpl.{cmp-value as mention_order}
@@ -92,11 +92,11 @@ least_row (row.Concept d b) = by (nat_cmp 0 d) refl
     by Greater e f = none_below d e
 least_row (row.Role p a b) = λ e. absurd cc
 
-behind_from : (a : ℕ) (after : Option Row) (q : Row) → IsBehind after q → IsFrom (start_at a after) (mention a q)
+behind_from : (a : ℕ) (after : Option Row) (q : Row) → IsRowBehind after q → IsFrom (start_at a after) (mention a q)
 behind_from a None q behind = λ e. least_row q (sym (by_rows a (row.Concept 0 0) q) ∙ e)
 behind_from a (Some r) q behind = by_rows a r q ∙ behind
 
-from_behind : (a : ℕ) (after : Option Row) (q : Row) → IsFrom (start_at a after) (mention a q) → IsBehind after q
+from_behind : (a : ℕ) (after : Option Row) (q : Row) → IsFrom (start_at a after) (mention a q) → IsRowBehind after q
 from_behind a None q from = tt
 from_behind a (Some r) q from = sym (by_rows a r q) ∙ from
 
@@ -168,10 +168,3 @@ none_above s (Some after) m are greatest le = λ r a c named above.
   where
     below : (x y : ℕ) → x < y → nat_cmp x y ≡ Less
     below x y lt = grind (arith, nat_tests)
-
--- where there is no mention there is no individual
-pub none_at_all : (ms : List Mention) (after : Option ℕ) → AreMentions ms → ms ≡ [] → IsNextIndividual (rows_of ms) after None
-none_at_all ms after are e = λ r a c named above.
-    let there : Contains ms (mention a r) = (beside ms are a r named).0 c in
-    let bad : Contains [] (mention a r) = subst (λ (ns : List Mention). Contains ns (mention a r)) e there in
-    absurd (omega (arith, bad.1))

@@ -8,7 +8,7 @@ use Rattle.std.specs.declared.ops.Bound.{Bound}
 use Rattle.std.specs.declared.ops.Bound.TheVariants.{Included, Excluded, Unbounded}
 use Rattle.dl_base.specs.declared.row.Row.TheVariants as row
 use Rattle.dl_base.specs.declared.row.Row.{Row}
-use Rattle.assert_tables.specs.Rows.{IsAbove, IsNamedIn}
+use Rattle.assert_tables.specs.Rows.{IsNumberAbove, IsNamedIn}
 use Rattle.dl_base.specs.Rows.{numbered_row_cmp}
 use Rattle.assert_tables.specs.declared.row_set.Mention.{Mention}
 
@@ -44,5 +44,5 @@ IsLeastFrom ms start (Some m) = Contains ms m × IsFrom start m × ((n : Mention
 
 -- the numbers above that one are those from the least on
 pub record IsLow (after : Option ℕ) (least : ℕ) : Type 0 where
-  pub reached : (a : ℕ) → IsAbove after a → least ≤ a
-  pub wanted : (a : ℕ) → least ≤ a → IsAbove after a
+  pub reached : (a : ℕ) → IsNumberAbove after a → least ≤ a
+  pub wanted : (a : ℕ) → least ≤ a → IsNumberAbove after a

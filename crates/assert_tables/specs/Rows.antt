@@ -61,23 +61,23 @@ pub record Loses (r : Row) (old new : List Row) : Type 0 where
   pub each : (q : Row) → Contains new q ↔ ((q ≢ r) × Contains old q)
 
 -- the row comes behind that one, or there is none that it has to come behind
-abbrev pub IsBehind : Option Row → Row → Type 0
-IsBehind None r = Unit {0}
-IsBehind (Some after) r = numbered_row_cmp after r ≡ Less
+abbrev pub IsRowBehind : Option Row → Row → Type 0
+IsRowBehind None r = Unit {0}
+IsRowBehind (Some after) r = numbered_row_cmp after r ≡ Less
 
 -- the least row behind that one that names the individual, or none exactly where there is none
 abbrev pub IsNextOf : List Row → ℕ → Option Row → Option Row → Type 0
-IsNextOf rows a after None = (q : Row) → Contains rows q → IsNamedIn a q → IsBehind after q → ⊥
-IsNextOf rows a after (Some r) = Contains rows r × IsNamedIn a r × IsBehind after r
-    × ((q : Row) → Contains rows q → IsNamedIn a q → IsBehind after q → numbered_row_cmp r q ≢ Greater)
+IsNextOf rows a after None = (q : Row) → Contains rows q → IsNamedIn a q → IsRowBehind after q → ⊥
+IsNextOf rows a after (Some r) = Contains rows r × IsNamedIn a r × IsRowBehind after r
+    × ((q : Row) → Contains rows q → IsNamedIn a q → IsRowBehind after q → numbered_row_cmp r q ≢ Greater)
 
 -- the number is above that one, or there is none that it has to be above
-abbrev pub IsAbove : Option ℕ → ℕ → Type 0
-IsAbove None a = Unit {0}
-IsAbove (Some after) a = after < a
+abbrev pub IsNumberAbove : Option ℕ → ℕ → Type 0
+IsNumberAbove None a = Unit {0}
+IsNumberAbove (Some after) a = after < a
 
 -- the least individual above that one that a row names, or none exactly where there is none
 abbrev pub IsNextIndividual : List Row → Option ℕ → Option ℕ → Type 0
-IsNextIndividual rows after None = (r : Row) (a : ℕ) → Contains rows r → IsNamedIn a r → IsAbove after a → ⊥
-IsNextIndividual rows after (Some b) = IsAbove after b × ((r : Row) × Contains rows r × IsNamedIn b r)
-    × ((r : Row) (a : ℕ) → Contains rows r → IsNamedIn a r → IsAbove after a → a < b → ⊥)
+IsNextIndividual rows after None = (r : Row) (a : ℕ) → Contains rows r → IsNamedIn a r → IsNumberAbove after a → ⊥
+IsNextIndividual rows after (Some b) = IsNumberAbove after b × ((r : Row) × Contains rows r × IsNamedIn b r)
+    × ((r : Row) (a : ℕ) → Contains rows r → IsNamedIn a r → IsNumberAbove after a → a < b → ⊥)

@@ -89,7 +89,7 @@ fits_cut s k n done = record {
 pub fits_sync : (s : State) (done : Bool) → Fits s (Sync done) (Shown (after s (Sync done)))
 fits_sync s done = record { begins = λ l now. now; ends = now_told (after s (Sync done)); told = λ l now. inl now }
 
-shows_none : (before bytes seen : List ℕ) → seen ≡ before → ShowsFront before bytes (Some seen)
+pub shows_none : (before bytes seen : List ℕ) → seen ≡ before → ShowsFront before bytes (Some seen)
 shows_none before bytes seen is = record { shown = []; more = bytes; whole = refl; now = ap Some is ∙ ap Some (sym (append-nil before)) }
 
 shows_all : (before bytes seen : List ℕ) → seen ≡ before ++ bytes → ShowsFront before bytes (Some seen)

@@ -7,3 +7,5 @@ pub mod Replay
 pub mod Memory
 pub mod Reached
 pub mod Untold
+pub mod Stop
+pub mod Laws

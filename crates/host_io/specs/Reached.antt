@@ -43,23 +43,23 @@ sound_touch at n reads a le image s = record {
 touched_image : (at n : ℕ) (reads : List ℕ) (a : Area) (bytes : List ℕ) → IsImage a bytes → IsImage (touch at n reads a) bytes
 touched_image at n reads a bytes image = record { no_shorter = image.no_shorter; no_longer = omega (arith, image.no_longer); outside = λ i lt out. image.outside i lt out.1 }
 
-take_take : (n m : ℕ) (xs : List ℕ) → n ≤ m → take n (take m xs) ≡ take n xs
+pub take_take : (n m : ℕ) (xs : List ℕ) → n ≤ m → take n (take m xs) ≡ take n xs
 take_take zero m xs le = refl
 take_take (suc n) zero xs le = absurd (omega arith)
 take_take (suc n) (suc m) [] le = refl
 take_take (suc n) (suc m) (x ∷ xs) le = ap (λ (l : List ℕ). x ∷ l) (take_take n m xs (omega arith))
 
 -- bytes that are put at a place leave what is before it
-front_put : (at : ℕ) (bytes old : List ℕ) → at ≤ length old → take at (put at bytes old) ≡ take at old
-front_put at bytes old le =
-    ap (take at) (append_assoc (take at old) bytes (drop (at + length bytes) old))
-    ∙ take-append-le at (take at old) (bytes ++ drop (at + length bytes) old) (omega (arith, length-take at old))
-    ∙ take_take at at old (omega arith)
+pub front_put : (n at : ℕ) (bytes old : List ℕ) → n ≤ at → n ≤ length old → take n (put at bytes old) ≡ take n old
+front_put n at bytes old le long =
+    ap (take n) (append_assoc (take at old) bytes (drop (at + length bytes) old))
+    ∙ take-append-le n (take at old) (bytes ++ drop (at + length bytes) old) (omega (arith, length-take at old))
+    ∙ take_take n at old le
 
-length-put : (at : ℕ) (bytes old : List ℕ) → at ≤ length old → length (put at bytes old) ≡ max (length old) (at + length bytes)
+pub length-put : (at : ℕ) (bytes old : List ℕ) → at ≤ length old → length (put at bytes old) ≡ max (length old) (at + length bytes)
 length-put at bytes old le = omega (arith, length-append (take at old ++ bytes) (drop (at + length bytes) old), length-append (take at old) bytes, length-take at old, length-drop (at + length bytes) old)
 
-put_image : (at : ℕ) (bytes : List ℕ) (a : Area) → at ≤ length a.reads → IsImage a a.reads → IsImage (touch at (length bytes) (put at bytes a.reads) a) (put at bytes a.reads)
+pub put_image : (at : ℕ) (bytes : List ℕ) (a : Area) → at ≤ length a.reads → IsImage a a.reads → IsImage (touch at (length bytes) (put at bytes a.reads) a) (put at bytes a.reads)
 put_image at bytes a le image = record {
   no_shorter = omega (arith, image.no_shorter, length-put at bytes a.reads le);
   no_longer = omega (arith, image.no_longer, length-put at bytes a.reads le);
@@ -71,7 +71,7 @@ put_image at bytes a le image = record {
   where
     same : (i : ℕ) → i < at → get_or (put at bytes a.reads) i 0 ≡ get_or a.reads i 0
     same i below =
-        sym (get_or-take at (put at bytes a.reads) i 0 below) ∙ ap (λ (l : List ℕ). get_or l i 0) (front_put at bytes a.reads le) ∙ get_or-take at a.reads i 0 below
+        sym (get_or-take at (put at bytes a.reads) i 0 below) ∙ ap (λ (l : List ℕ). get_or l i 0) (front_put at at bytes a.reads (omega arith) le) ∙ get_or-take at a.reads i 0 below
 
     past : (i : ℕ) → at + length bytes ≤ i → i < length a.reads → get_or (put at bytes a.reads) i 0 ≡ get_or a.reads i 0
     past i behind lt =

@@ -12,9 +12,11 @@ mod counts;
 mod even_host;
 mod folder;
 mod host;
+pub mod laws;
 mod memory_host;
 mod memory_source;
 mod source;
+mod stop;
 #[cfg(test)]
 mod tests;
 

@@ -1,15 +1,18 @@
 // A host in memory, with failures on demand.
-ghost use Rattle.std.specs.Prelude.{◌≡◌, ◌<◌, ◌≤◌, ◌⊎◌, ◌^◌, ◌++◌, ◌∷◌, ◌↔◌, [], ℕ, List, None, true, false, IfOk, IsErr, IsOk, IsTrue, OnErr, OnOk, length, if◌then◌else◌};
+ghost use Rattle.std.specs.Prelude.{◌≡◌, ◌<◌, ◌≤◌, ◌⊎◌, ◌^◌, ◌++◌, ◌∷◌, ◌↔◌, [], ℕ, List, None, true, false, IfOk, IsErr, IsOk, IsTrue, OnErr, OnOk, length, if◌then◌else◌, ◌-◌, Some, slice_get, take};
 ghost use Rattle.std.specs.Option.{ForSome};
 ghost use Rattle.host_io.specs.Causes.{HasCause};
 ghost use Rattle.host_io.specs.Disk.{Cuts, IsCopy, OnArea, Syncs, TakesStep, Writes, area_of, put};
 ghost use Rattle.host_io.specs.Host.{Prints};
 ghost use Rattle.host_io.specs.Memory.{IsNextListed, Went, bytes_of, clock_of, disk_failed, disk_of, given_of, lacked_of, might_of, print_failed, printed_of, state_of, with_bytes, with_call, with_lack};
+ghost use Rattle.host_io.specs.Replay.{LeavesInside, begin, replay};
+ghost use Rattle.host_io.specs.Stop.{IsStop};
 ghost use Rattle.host_io.specs.Moments.{Elapses, IsNoCall, IsShowing, IsShown, Leaves, Left, Ticks};
 ghost use Rattle.host_io.specs.declared.areas.Areas.{Areas};
 ghost use Rattle.host_io.specs.declared.call.Call.{Call};
 
 use crate::counts::{is_listed, raised};
+use crate::stop::stop_inside;
 use crate::{Areas, Bytes, Call, Calls, Failed, Host};
 use std::alloc::{AllocError, Global};
 use std::marker::Model;
@@ -99,6 +102,35 @@ impl MemHost {
         ensures { result ≡ self.now.lacked }
     {
         self.lacked
+    }
+
+    /// One image of the disk for a stop inside a call, the first call being number 1, and what was printed before it. An area
+    /// has the bytes of the last sync before the call that succeeded, or those that it was given, with the byte `fill` in each
+    /// range that was touched since, the one that the call touches included, and past their end. It is `keep` bytes longer
+    /// than at that sync, but no longer than the area has been since.
+    pub fn stop(&self, call: u64, fill: u8, keep: u64) -> Result<(Areas, Bytes), AllocError>
+        requires first { 1 ≤ call }
+        requires last { call ≤ length self.now.calls }
+        ensures stop { (c : Call) → slice_get self.now.calls (call - 1) ≡ Some c
+            → IfOk result (λ left. IsStop (replay (begin self.now.given) (take (call - 1) self.now.calls)) c fill keep left.0 left.1) }
+
+        // It is what a stop inside the call may leave.
+        ensures image { (c : Call) → slice_get self.now.calls (call - 1) ≡ Some c
+            → IfOk result (λ left. LeavesInside (replay (begin self.now.given) (take (call - 1) self.now.calls)) c (record { first = left.0.first; second = left.0.second; printed = left.1 })) }
+    {
+        let at = call as usize - 1;
+        let given = match &self.given {
+            Some(given) => given,
+            None => &self.areas,
+        };
+        stop_inside(
+            self.alloc,
+            given,
+            &self.calls[..at],
+            &self.calls[at],
+            fill,
+            keep,
+        )
     }
 
     // Whether the next call is listed to fail.

@@ -334,12 +334,18 @@ fn the_first_fault_ends_the_run(rt: HostRuntime) -> Result<(), Fail> {
     let document = Bytes::from_slice(alloc, REPLIES[0].0)?;
     let mut source = MemSource::new(document, Calls::from_slice(alloc, &[1])?);
     let mut host = MemHost::new(alloc, Areas::new(alloc), Calls::new(alloc));
-    assert_eq!(rt; serve(alloc, &words, &mut source, &mut host), Status::ReadFault);
+    assert_eq!(rt;
+        serve(alloc, &words, &mut source, &mut host),
+        Status::ReadFault
+    );
     assert_eq!(rt; host.calls(), 0);
     let document = Bytes::from_slice(alloc, REPLIES[0].0)?;
     let mut source = MemSource::new(document, Calls::new(alloc));
     let mut host = MemHost::new(alloc, Areas::new(alloc), Calls::from_slice(alloc, &[1])?);
-    assert_eq!(rt; serve(alloc, &words, &mut source, &mut host), Status::PrintFault);
+    assert_eq!(rt;
+        serve(alloc, &words, &mut source, &mut host),
+        Status::PrintFault
+    );
     assert_eq!(rt; host.printed().items(), b"".as_slice());
     assert_eq!(rt; host.lacked(), 0);
     Ok(())
@@ -383,7 +389,13 @@ fn lines_and_inputs_have_their_limits(rt: HostRuntime) -> Result<(), Fail> {
         line: 16_385,
     };
     ends(&rt, alloc, comments(alloc, 67_108_864)?, unasked, b"")?;
-    ends(&rt, alloc, comments(alloc, 67_108_865)?, Status::InputTooLarge, b"")
+    ends(
+        &rt,
+        alloc,
+        comments(alloc, 67_108_865)?,
+        Status::InputTooLarge,
+        b"",
+    )
 }
 
 // A document with so many individuals, of which the first one has a fact more.
@@ -424,10 +436,40 @@ fn concepts(alloc: Global, count: u32) -> Result<Bytes, Fail> {
 fn bases_have_their_limits(rt: HostRuntime) -> Result<(), Fail> {
     let alloc = rt.alloc();
     let refused = |code: u8, line: u64| Status::Refused { code, line };
-    ends(&rt, alloc, individuals(alloc, 65_536)?, Status::Done, b"end 65536\n")?;
-    ends(&rt, alloc, individuals(alloc, 65_537)?, refused(11, 65_538), b"")?;
-    ends(&rt, alloc, edges(alloc, 1_000_000)?, Status::Done, b"end 1000\n")?;
-    ends(&rt, alloc, edges(alloc, 1_000_001)?, refused(11, 1_000_002), b"")?;
-    ends(&rt, alloc, concepts(alloc, 512)?, Status::Done, b"answer x\nend 1\n")?;
+    ends(
+        &rt,
+        alloc,
+        individuals(alloc, 65_536)?,
+        Status::Done,
+        b"end 65536\n",
+    )?;
+    ends(
+        &rt,
+        alloc,
+        individuals(alloc, 65_537)?,
+        refused(11, 65_538),
+        b"",
+    )?;
+    ends(
+        &rt,
+        alloc,
+        edges(alloc, 1_000_000)?,
+        Status::Done,
+        b"end 1000\n",
+    )?;
+    ends(
+        &rt,
+        alloc,
+        edges(alloc, 1_000_001)?,
+        refused(11, 1_000_002),
+        b"",
+    )?;
+    ends(
+        &rt,
+        alloc,
+        concepts(alloc, 512)?,
+        Status::Done,
+        b"answer x\nend 1\n",
+    )?;
     ends(&rt, alloc, concepts(alloc, 513)?, refused(5, 514), b"")
 }

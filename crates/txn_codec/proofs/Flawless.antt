@@ -157,7 +157,7 @@ unique_names most = unique_then (unique_count most) (λ n. unique_exactly n uniq
 unique_inclusions : (concepts roles : ℕ) → Unique (inclusions concepts roles).loose
 unique_inclusions concepts roles = unique_then (unique_count 4096) (λ n. unique_exactly n (unique_inclusion concepts roles))
 
-unique_ontology : Unique ontology.loose
+pub unique_ontology : Unique ontology.loose
 unique_ontology = unique_then (unique_names 512) (λ concepts. unique_then (unique_names 256) (λ roles. unique_then (unique_inclusions (length concepts) (length roles)) (λ is. unique_means)))
 
 in_range : (concepts roles tag n : ℕ) → IsPlaced concepts roles (basic_of tag n) → limit_of concepts roles tag ≤ n → ⊥

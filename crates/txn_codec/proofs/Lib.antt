@@ -11,3 +11,4 @@ pub mod OntologyRules
 pub mod Flawless
 pub mod WholeOntology
 pub mod SpelledOntology
+pub mod MeanOnce

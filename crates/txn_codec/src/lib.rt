@@ -7,6 +7,7 @@
 mod changes;
 mod changes_reader;
 mod fault;
+pub mod laws;
 mod ontology_reader;
 mod ontology_writer;
 mod pieces;

@@ -1,17 +1,222 @@
+//! Bytes beside what the format says of them.
+
 use super::*;
+use std::alloc::{AllocError, Global};
 use std::test::Fail;
 
-#[test]
-fn one_change(rt: HostRuntime) -> Result<(), Fail> {
-    let bytes: &[u8] = b"\x00\x00\x00\x01\x01\x02\x01A\x01a";
-    match read_changes(rt.alloc(), bytes) {
+/// What is compared of an answer.
+#[derive(Clone, Copy, Debug, PartialEq, Eq)]
+enum Seen {
+    Read,
+    Bad(u64),
+}
+
+/// What reading gives; changes that are read have to be written as the same bytes.
+fn changes(alloc: Global, bytes: &[u8]) -> Result<Seen, AllocError> {
+    match read_changes(alloc, bytes) {
         Ok(changes) => {
-            assert_eq!(rt; changes_len(changes.items()), 10);
-            let mut out = Vec::new(rt.alloc());
+            let mut out = Vec::new(alloc);
+            if changes.items().len() > 4_000_000 {
+                return Ok(Seen::Bad(0));
+            }
             write_changes(changes.items(), &mut out)?;
-            assert_eq!(rt; out.as_slice(), bytes);
+            if out.as_slice() == bytes && changes_len(changes.items()) == bytes.len() as u64 {
+                Ok(Seen::Read)
+            } else {
+                Ok(Seen::Bad(0))
+            }
         }
-        Err(_) => assert_eq!(rt; 0, 1),
+        Err(CodecError::Bad(at)) => Ok(Seen::Bad(at)),
+        Err(CodecError::NoMemory) => Err(AllocError),
     }
+}
+
+/// The same of ontologies.
+fn ontology(alloc: Global, bytes: &[u8]) -> Result<Seen, AllocError> {
+    match read_ontology(alloc, bytes) {
+        Ok(ontology) => {
+            let mut out = Vec::new(alloc);
+            write_ontology(&ontology, &mut out)?;
+            if out.as_slice() == bytes && ontology_len(&ontology) == bytes.len() as u64 {
+                Ok(Seen::Read)
+            } else {
+                Ok(Seen::Bad(0))
+            }
+        }
+        Err(CodecError::Bad(at)) => Ok(Seen::Bad(at)),
+        Err(CodecError::NoMemory) => Err(AllocError),
+    }
+}
+
+/// The bytes with 255 at this place.
+fn spoiled(alloc: Global, bytes: &[u8], at: usize) -> Result<Vec<u8>, AllocError> {
+    let mut out = Vec::new(alloc);
+    for (i, byte) in bytes.iter().enumerate() {
+        out.push(if i == at { 255 } else { *byte })?;
+    }
+    Ok(out)
+}
+
+#[test]
+fn each_byte_of_the_examples(rt: HostRuntime) -> Result<(), Fail> {
+    let payload: [u8; 10] = [0, 0, 0, 1, 1, 2, 1, b'A', 1, b'a'];
+    assert_eq!(rt; changes(rt.alloc(), &payload)?, Seen::Read);
+    let places: [u64; 10] = [10, 10, 10, 10, 4, 5, 8, 7, 10, 9];
+    for at in 0..10 {
+        let other = spoiled(rt.alloc(), &payload, at)?;
+        assert_eq!(rt;
+            changes(rt.alloc(), &other)?,
+            Seen::Bad(places[at]),
+            "at {at}"
+        );
+        assert_eq!(rt; changes(rt.alloc(), &payload[..at])?, Seen::Bad(at as u64));
+    }
+    let payload: [u8; 8] = [0, 1, 1, b'A', 0, 0, 0, 0];
+    assert_eq!(rt; ontology(rt.alloc(), &payload)?, Seen::Read);
+    let places: [u64; 8] = [0, 4, 4, 3, 4, 6, 6, 8];
+    for at in 0..8 {
+        let other = spoiled(rt.alloc(), &payload, at)?;
+        assert_eq!(rt;
+            ontology(rt.alloc(), &other)?,
+            Seen::Bad(places[at]),
+            "at {at}"
+        );
+        assert_eq!(rt; ontology(rt.alloc(), &payload[..at])?, Seen::Bad(at as u64));
+    }
+    Ok(())
+}
+
+#[test]
+fn changes_and_their_faults(rt: HostRuntime) -> Result<(), Fail> {
+    let table: [(&[u8], Seen); 20] = [
+        (b"\0\0\0\0", Seen::Read),
+        (b"\0\0\0\x01\x01\x02\x01A\x01a\0", Seen::Bad(10)),
+        (
+            b"\0\0\0\x02\x01\x02\x01A\x01a\0\x03\x01R\x01a\x03<b>",
+            Seen::Read,
+        ),
+        (b"\0\0\0\x01\x02\x02\x01A\x01a", Seen::Bad(4)),
+        (b"\0\0\0\x01\x01\x00\x01A\x01a", Seen::Bad(5)),
+        (b"\0\0\0\x01\x01\x01\x01A\x01a", Seen::Bad(5)),
+        (b"\0\0\0\x01\x01\x04\x01A\x01a", Seen::Bad(5)),
+        (b"\0\0\0\x01\x01\x05\x01A\x01a", Seen::Bad(5)),
+        (b"\0\0\0\x01\x01\x02\x00\x01a", Seen::Bad(6)),
+        (b"\0\0\0\x01\x01\x02\x03And\x01a", Seen::Bad(9)),
+        (b"\0\0\0\x01\x01\x02\x04Andy\x01a", Seen::Read),
+        (b"\0\0\0\x01\x01\x02\x03Inv\x01a", Seen::Bad(9)),
+        (b"\0\0\0\x01\x01\x02\x04Some\x01a", Seen::Bad(10)),
+        (b"\0\0\0\x01\x01\x02\x07nothing\x01a", Seen::Bad(13)),
+        (b"\0\0\0\x01\x01\x02\x04<\xc3\xa9>\x01a", Seen::Read),
+        (b"\0\0\0\x01\x01\x02\x02<>\x01a", Seen::Bad(7)),
+        (b"\0\0\0\x01\x01\x02\x03<>>\x01a", Seen::Bad(8)),
+        (b"\0\0\0\x01\x01\x02\x04<a>b\x01a", Seen::Bad(9)),
+        (b"\0\0\0\x01\x01\x02\x03<ab\x01a", Seen::Bad(9)),
+        (b"\0\0\0\x01\x01\x02\x021A\x01a", Seen::Bad(7)),
+    ];
+    for (bytes, seen) in table {
+        assert_eq!(rt; changes(rt.alloc(), bytes)?, seen, "at {bytes:?}");
+    }
+    Ok(())
+}
+
+#[test]
+fn ontologies_and_their_faults(rt: HostRuntime) -> Result<(), Fail> {
+    let table: [(&[u8], Seen); 17] = [
+        (b"\0\0\0\0\0\0", Seen::Read),
+        (b"\0\0\0\0\0\0\0", Seen::Bad(6)),
+        (b"\0\x01\x01A\0\x01\x01A\0\0", Seen::Read),
+        (b"\0\x02\x01A\x01A\0\0\0\0", Seen::Bad(5)),
+        (b"\0\x02\x01A\x01A\0\0\0\0\xff", Seen::Bad(5)),
+        (b"\0\0\0\x02\x01A\x01A\0\0", Seen::Bad(7)),
+        (b"\0\x01\x01A\0\0\0\x01\x01\x01\0\0\0\0\0", Seen::Read),
+        (b"\0\x01\x01A\0\0\0\x01\x01\x01\0\x01\0\0\0", Seen::Bad(10)),
+        (b"\0\x01\x01A\0\0\0\x01\x01\x02\0\0\0\0\0", Seen::Bad(10)),
+        (
+            b"\0\x01\x01A\0\x01\x01R\0\x01\x01\x02\0\0\x03\0\0",
+            Seen::Read,
+        ),
+        (
+            b"\0\x01\x01A\0\x01\x01R\0\x01\x01\x02\0\0\x03\x01\0",
+            Seen::Bad(15),
+        ),
+        (b"\0\x01\x01A\0\0\0\x01\0\x01\0\0\0\0\0", Seen::Bad(8)),
+        (b"\0\x01\x01A\0\0\0\x01\x09\x01\0\0\0\0\0", Seen::Bad(8)),
+        (b"\0\x01\x01A\0\0\0\x01\x01\0\0\0\0\0\0", Seen::Bad(9)),
+        (b"\0\x01\x01A\0\0\0\x01\x01\x04\0\0\0\0\0", Seen::Bad(9)),
+        (b"\0\x01\x01A\0\0\0\x01\x01\x01\0\0\0\0\x01", Seen::Bad(14)),
+        (b"\0\x01\x01A\0\0\0\x01\x01\x01\0\0\x04\0\0", Seen::Bad(12)),
+    ];
+    for (bytes, seen) in table {
+        assert_eq!(rt; ontology(rt.alloc(), bytes)?, seen, "at {bytes:?}");
+    }
+    assert_eq!(rt; ontology(rt.alloc(), b"\x02\x01")?, Seen::Bad(1));
+    assert_eq!(rt; ontology(rt.alloc(), b"\x02\0")?, Seen::Bad(2));
+    assert_eq!(rt; ontology(rt.alloc(), b"\0\0\x01\x01")?, Seen::Bad(3));
+    assert_eq!(rt; ontology(rt.alloc(), b"\0\0\0\0\x10\x01")?, Seen::Bad(5));
+    Ok(())
+}
+
+/// An addition to a concept of so many bytes, of an individual of so many.
+fn add_change(out: &mut Vec<u8>, concept: u8, individual: u8) -> Result<(), AllocError> {
+    out.extend_from_slice(&[1, 2, concept])?;
+    for _ in 0..concept {
+        out.push(b'A')?;
+    }
+    out.push(individual)?;
+    for _ in 0..individual {
+        out.push(b'a')?;
+    }
+    Ok(())
+}
+
+#[test]
+fn large_payloads_of_changes(rt: HostRuntime) -> Result<(), Fail> {
+    let mut out = Vec::new(rt.alloc());
+    out.extend_from_slice(&[0, 0, 0x27, 0x10])?;
+    for _ in 0..10_000 {
+        add_change(&mut out, 60, 60)?;
+    }
+    assert_eq!(rt; changes(rt.alloc(), out.as_slice())?, Seen::Read);
+    // 16,320 changes of 514 bytes, and one of 124.
+    let mut out = Vec::new(rt.alloc());
+    out.extend_from_slice(&[0, 0, 0x3f, 0xc1])?;
+    for _ in 0..16_320 {
+        add_change(&mut out, 255, 255)?;
+    }
+    add_change(&mut out, 60, 60)?;
+    assert_eq!(rt; out.len(), 8_388_608);
+    assert_eq!(rt; changes(rt.alloc(), out.as_slice())?, Seen::Read);
+    Ok(())
+}
+
+/// So many names of three bytes behind their number.
+fn add_names(out: &mut Vec<u8>, count: u16) -> Result<(), AllocError> {
+    out.extend_from_slice(&count.to_be_bytes())?;
+    for i in 0..count {
+        let digits: [u8; 4] = [
+            3,
+            b'A' + (i / 100 % 10) as u8,
+            b'0' + (i / 10 % 10) as u8,
+            b'0' + (i % 10) as u8,
+        ];
+        out.extend_from_slice(&digits)?;
+    }
+    Ok(())
+}
+
+#[test]
+fn an_ontology_at_its_limits(rt: HostRuntime) -> Result<(), Fail> {
+    let mut out = Vec::new(rt.alloc());
+    add_names(&mut out, 512)?;
+    add_names(&mut out, 256)?;
+    out.extend_from_slice(&[0x10, 0])?;
+    for _ in 0..4096 {
+        out.push(8)?;
+        for _ in 0..4 {
+            out.extend_from_slice(&[1, 1, 0xff, 3, 0, 0xff])?;
+        }
+        out.extend_from_slice(&[2, 0, 0])?;
+    }
+    assert_eq!(rt; ontology(rt.alloc(), out.as_slice())?, Seen::Read);
     Ok(())
 }
