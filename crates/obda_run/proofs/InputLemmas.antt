@@ -30,9 +30,6 @@ keeps_so_far read line draft r = subst (λ (ps : List (List ℕ)). KeepsDraft (m
 is_reading : (read line : List ℕ) (draft : Draft) → line ≡ kept (open_from [] read) → KeepsDraft (map line_of (ended_from [] read)) draft → IsReading read line draft
 is_reading read line draft is keeps = record { pieces = ended_from [] read; rest = open_from [] read; cut = is_cut read; line_is = is; keeps = keeps }
 
-pub reading_none : (line : List ℕ) (draft : Draft) → line ≡ [] → KeepsDraft [] draft → IsReading [] line draft
-reading_none line draft is keeps = is_reading [] line draft is keeps
-
 pub few_lines : (read : List ℕ) → length (map line_of (ended_from [] read)) ≤ length read
 few_lines read = omega (arith, length-map (ended_from [] read) line_of, length-ended [] read)
 

@@ -12,9 +12,6 @@ got_pushed [] x y (suc k) at = absurd cc
 got_pushed (z ∷ xs) x y zero at = inl at
 got_pushed (z ∷ xs) x y (suc k) at = elim (got_pushed xs x y k at) [ inl h ↦ inl h | inr h ↦ inr (ap suc h.0, h.1) ]
 
-pub closures_none : (inclusions : List Inclusion) (closed : List BothWays) → closed ≡ [] → AreClosures inclusions 0 closed
-closures_none inclusions closed none = subst (AreClosures inclusions 0) (sym none) (record { each = refl; closures = λ r s at. absurd cc })
-
 pub closures_more : (inclusions : List Inclusion) (name : ℕ) (closed more : List BothWays) (s : BothWays) → more ≡ closed ++ s ∷ [] → ((inverse : Bool) → IsClosure inclusions (HeldBehind (record { name = name; inverse = inverse })) (side s inverse))
     → AreClosures inclusions name closed → AreClosures inclusions (name + 1) more
 closures_more inclusions name closed more s is behind are = subst (AreClosures inclusions (name + 1)) (sym is) (record {
