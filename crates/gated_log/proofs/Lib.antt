@@ -5,3 +5,7 @@ pub mod Runs
 pub mod Present
 pub mod Running
 pub mod Behind
+pub mod Joined
+pub mod Gates
+pub mod Fresh
+pub mod Opened

@@ -3,4 +3,5 @@ pub mod State
 pub mod Stops
 pub mod Opening
 pub mod Front
+pub mod Reading
 pub mod Fault

@@ -2,7 +2,7 @@
 ghost use Rattle.std.specs.Prelude.{◌≡◌, ◌≤◌, ◌↔◌, ◌+◌, ◌++◌, ◌∷◌, [], ℕ, List, IsTrue, take};
 ghost use Rattle.area_layout.specs.Layout.{header_bytes};
 ghost use Rattle.gated_log.specs.Entries.{within};
-ghost use Rattle.gated_log.specs.Front.{IsAtGate, IsFront};
+ghost use Rattle.gated_log.specs.Front.{IsAtGate, IsBounded, IsFront};
 
 use area_layout::laws::{head_read_back, header_read_back};
 use area_layout::{EntryHead, Header, read_head, read_header, write_header};
@@ -49,7 +49,8 @@ pub(crate) fn front_of(front: &[u8]) -> Front
 
 /// What stands at the gate from which on the area has these 6 bytes, or all that it has.
 pub(crate) fn at_gate(front: &[u8], gate: u64, limit: u64) -> AtGate
-    ensures { (rest : List ℕ) → front.now ≡ take 6 rest → IsAtGate (within limit) gate rest result }
+    ensures bounds { IsBounded (within limit) gate result }
+    ensures is { (rest : List ℕ) → front.now ≡ take 6 rest → IsAtGate (within limit) gate rest result }
 {
     if front.is_empty() {
         return AtGate::Broken;

@@ -6,7 +6,10 @@
 #![tactic(auto)]
 
 mod front;
+mod initial;
 mod log;
+mod reader;
 mod writing;
 
 pub use log::{AppendFault, Log};
+pub use reader::{LogFault, Next, Reader};
