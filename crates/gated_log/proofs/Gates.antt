@@ -7,7 +7,7 @@ use Rattle.area_layout.specs.declared.entry_head.EntryHead.{EntryHead}
 use Rattle.gated_log.specs.Entries.{Bounds, Entry, Begins, IsBroken, IsEntry, OffendsBehind, Stands, body, gate_place, spelling, top}
 use Rattle.gated_log.specs.Front.{IsOpen, IsWithin}
 use Rattle.gated_log.specs.Reading.{GoesOn, IsAll, entry_in}
-use Rattle.gated_log.proofs.Behind.{begins_more}
+use Rattle.gated_log.proofs.Behind.{begins_more, place_more}
 
 -- the front of the buffer, as far as it was filled, is the front of what stands there
 pub copied : (bytes : List ℕ) (at count n : ℕ) (buffer : List ℕ) → IsCopy bytes at count buffer → length buffer ≡ n → take count buffer ≡ take n (drop at bytes)
@@ -52,7 +52,7 @@ module _ (b : Bounds) (area : List ℕ) (entries : List Entry) (rest : List ℕ)
         ∙ drop_at front (drop 5 open_at.behind) (gate + 6) (omega (arith, length-append before (1 ∷ head_bytes h), size))
 
     -- all of the payload is there
-    pub goes_on : (buffer : List ℕ) → h.len ≤ length (drop (gate + 6) area) → take h.len buffer ≡ take h.len (drop (gate + 6) area) → (more : List ℕ) × Begins b area (entries ++ entry_in h.kind h.len buffer ∷ []) more
+    pub goes_on : (buffer : List ℕ) → h.len ≤ length (drop (gate + 6) area) → take h.len buffer ≡ take h.len (drop (gate + 6) area) → (more : List ℕ) × Begins b area (entries ++ entry_in h.kind h.len buffer ∷ []) more × (gate_place (entries ++ entry_in h.kind h.len buffer ∷ []) ≡ gate + 6 + h.len)
     goes_on buffer enough same =
         let e = entry_in h.kind h.len buffer in
         let payload = take h.len (drop 5 open_at.behind) in
@@ -68,7 +68,7 @@ module _ (b : Bounds) (area : List ℕ) (entries : List Entry) (rest : List ℕ)
         ∙ ap (λ (l : List ℕ). 1 ∷ head_bytes h ++ (l ++ more)) (sym payload_is)
         ∙ ap (λ n. 1 ∷ head_bytes (record { kind = h.kind; len = n }) ++ (e.payload ++ more)) (sym long)
         ∙ ap (λ (l : List ℕ). 1 ∷ l) (sym (append_assoc (head_bytes (record { kind = h.kind; len = length e.payload })) e.payload more)) in
-        (more, begins_more b area entries e rest more s is (omega (arith, long, inside.fits, place)) spelled)
+        (more, begins_more b area entries e rest more s is (omega (arith, long, inside.fits, place)) spelled, omega (arith, place_more entries e, place, long))
 
     -- the payload ends too early
     pub cut_off : length (drop (gate + 6) area) < h.len → IsBroken b gate rest

@@ -9,3 +9,4 @@ pub mod Joined
 pub mod Gates
 pub mod Fresh
 pub mod Opened
+pub mod LawLemmas

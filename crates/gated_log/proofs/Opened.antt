@@ -16,16 +16,16 @@ module _ {H : Type 0} (disk : H → Option Disk) (printed : H → Option (List �
   opened b old mid new d told told_mid shown only_now reads time run =
       let P : Left → Type 0 = AtOpening b d (printed old) in
       let start : LeavesOnly clock might old old P = started clock might old P (λ l left.
-          let now = only_now l left in
-          let images = now.areas d told in
-          record { first = inl images.0; second = images.1; output = now.output }) in
+      let now = only_now l left in
+      let images = now.areas d told in
+      record { first = inl images.0; second = images.1; output = now.output }) in
       let synced : LeavesOnly clock might old mid P = goes_on clock might old old mid P _ start time (λ l left.
-          let images = left.areas (settled d) told_mid in
-          record {
-            first = inl (subst (IsImage d.first) (sym (at_rest_image d.first.reads l.first images.0)) reads.0);
-            second = subst (IsImage d.second) (sym (at_rest_image d.second.reads l.second images.1)) reads.1;
-            output = λ before is. left.output before (shown ∙ is);
-          }) in
+      let images = left.areas (settled d) told_mid in
+      record {
+        first = inl (subst (IsImage d.first) (sym (at_rest_image d.first.reads l.first images.0)) reads.0);
+        second = subst (IsImage d.second) (sym (at_rest_image d.second.reads l.second images.1)) reads.1;
+        output = λ before is. left.output before (shown ∙ is);
+      }) in
       joined clock might old mid new P _ P synced run (λ l a. a) (λ l a. record {
         first = ⊎_elim (λ same. inl (subst (IsImage d.first) (sym same) reads.0)) (λ fresh. inr fresh) a.first;
         second = subst (IsImage d.second) (sym a.second) reads.1;

@@ -5,3 +5,4 @@ pub mod Opening
 pub mod Front
 pub mod Reading
 pub mod Fault
+pub mod Laws

@@ -7,6 +7,7 @@
 
 mod front;
 mod initial;
+pub mod laws;
 mod log;
 mod reader;
 mod writing;

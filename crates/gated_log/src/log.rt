@@ -95,12 +95,7 @@ impl Log {
     /// Adds an entry, of kind 1 for an ontology or 2 for a transaction. `Full` comes exactly where the gate behind the
     /// entry would stand past the limit. At each moment of the call a stop leaves the entries from before, or these and
     /// the new one; at `Ok` it leaves the latter.
-    pub fn append<H: Host>(
-        self,
-        host: &mut H,
-        kind: u8,
-        payload: &[u8],
-    ) -> Result<Log, AppendFault>
+    pub fn append<H: Host>(self, host: &mut H, kind: u8, payload: &[u8]) -> Result<Log, AppendFault>
         requires least_kind { 1 ≤ kind }
         requires greatest_kind { kind ≤ 2 }
         requires size { length payload.now ≤ 8388608 }

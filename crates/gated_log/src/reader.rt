@@ -107,12 +107,7 @@ fn read_first<H: Host>(host: &mut H, at: u64, buf: &mut [u8]) -> Result<usize, F
 }
 
 /// Reads a payload of so many bytes into the front of the buffer, and answers whether they are all there.
-fn read_payload<H: Host>(
-    host: &mut H,
-    at: u64,
-    len: u32,
-    buf: &mut [u8],
-) -> Result<bool, Failed>
+fn read_payload<H: Host>(host: &mut H, at: u64, len: u32, buf: &mut [u8]) -> Result<bool, Failed>
     requires room { len ≤ length buf.old }
     requires settled { ForSome (H.disk host.old) (λ d. IsSettled d) }
 

@@ -5,7 +5,7 @@ use Rattle.host_io.proofs.Moments.{joined, weaker}
 use Rattle.gated_log.specs.Entries.{Entry, IsEntry, Stands, body, within}
 use Rattle.gated_log.specs.State.{Appended, BeforeOrAfter}
 use Rattle.gated_log.specs.Stops.{AtFirst}
-use Rattle.gated_log.proofs.Behind.{same_front, either, opened, gate_within}
+use Rattle.gated_log.proofs.Behind.{same_front, either, opened, gate_within, place_more}
 use Rattle.gated_log.proofs.Runs.{was_told, same_some}
 use Rattle.gated_log.proofs.Present.{present}
 use Rattle.gated_log.proofs.Running.{if_ok, was_ok}
@@ -47,7 +47,7 @@ returns-clause-ok g c = if_ok c.settle_write.result _ (λ v is d told.
     let told_m = c.in_ok-write_entry.ensures.ok d told in
     let n : Disk = record { first = at_rest (put end (1 ∷ []) m.first.reads); second = d.second } in
     let told_n = was_ok c.settle_write.result v is c.settle_write.ensures.ok m told_m in
-    (n, told_n, record { first = refl; second = at.0.second }, refl, λ es s place. opened (within c.args.limit) old es s end place e entry c.requires.room))
+    (n, told_n, record { first = refl; second = at.0.second }, refl, λ es s place. (opened (within c.args.limit) old es s end place e entry c.requires.room, place_more es e ∙ ap (λ (n : ℕ). n + 6 + length e.payload) place)))
 
 pub returns-clause-moments : goal.returns-clause-moments
 returns-clause-moments g c = λ d told.

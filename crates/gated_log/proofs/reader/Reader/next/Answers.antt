@@ -13,7 +13,7 @@ read_entry-requires-clause-ready g c = λ d told.
 pub returns-in-Some-clause-ok : goal.returns-in-Some-clause-ok
 returns-in-Some-clause-ok g c = λ d told.
     let read = subst (λ (o : Option EntryHead). HasRead (within c.self.inside.limit) c.self.inside.gate d.first.reads c.read_entry.new.buf o) c.in-Some.is (c.in_ok-head.ensures.ok d told) in
-    subst (λ (r : ReaderState). GoesOn (within r.limit) r.gate d.first.reads (entry_in c.in-Some.head.kind c.in-Some.head.len c.read_entry.new.buf)) c.self.view_is read
+    subst (λ (r : ReaderState). GoesOn (within r.limit) r.gate c.in-Some.head.len d.first.reads (entry_in c.in-Some.head.kind c.in-Some.head.len c.read_entry.new.buf)) c.self.view_is read
 
 pub returns-in-None-clause-ok : goal.returns-in-None-clause-ok
 returns-in-None-clause-ok g c = λ d told.
