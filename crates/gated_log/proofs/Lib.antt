@@ -1,0 +1,12 @@
+pub mod Images
+pub mod Puts
+pub mod Tears
+pub mod Runs
+pub mod Present
+pub mod Running
+pub mod Behind
+pub mod Joined
+pub mod Gates
+pub mod Fresh
+pub mod Opened
+pub mod LawLemmas

@@ -1,0 +1,34 @@
+use Rattle.std.proofs.Common.{◌≡◌, ◌∙◌, List, ℕ, inl, inr, refl, sym, ap, subst, Some}
+use Rattle.host_io.specs.Disk.{Area, Disk, settled}
+use Rattle.gated_log.specs.Entries.{within}
+use Rattle.gated_log.proofs.Opened.{opened}
+use Rattle.gated_log.proofs.reader.Reader.load.Goals as goal
+
+pub returns-in_err-open_settled-clause-moments : goal.returns-in_err-open_settled-clause-moments
+returns-in_err-open_settled-clause-moments g c = λ d told.
+    let h = g.H.Host in
+    let to = c.in_ok-sync.ensures.disk.told d told in
+    let told_mid : h.disk c.sync.new.self ≡ Some (settled d) = to.1 ∙ ap Some to.2.ok in
+    opened h.disk h.printed h.clock h.might (within c.args.limit) c.args.host.now c.sync.new.self c.open_settled.new.host d told told_mid c.in_ok-sync.ensures.printed
+    (g.met.H.Host.only_now c.args.host.now) (g.met.H.Host.reads_now c.args.host.now d told) c.in_ok-sync.ensures.time (c.open_settled.ensures.moments (within c.args.limit) (settled d) told_mid)
+
+pub returns-clause-moments : goal.returns-clause-moments
+returns-clause-moments g c = λ d told.
+    let h = g.H.Host in
+    let to = c.in_ok-sync.ensures.disk.told d told in
+    let told_mid : h.disk c.sync.new.self ≡ Some (settled d) = to.1 ∙ ap Some to.2.ok in
+    opened h.disk h.printed h.clock h.might (within c.args.limit) c.args.host.now c.sync.new.self c.open_settled.new.host d told told_mid c.in_ok-sync.ensures.printed
+    (g.met.H.Host.only_now c.args.host.now) (g.met.H.Host.reads_now c.args.host.now d told) c.in_ok-sync.ensures.time (c.open_settled.ensures.moments (within c.args.limit) (settled d) told_mid)
+
+pub returns-clause-ok : goal.returns-clause-ok
+returns-clause-ok g c = λ d told.
+    let to = c.in_ok-sync.ensures.disk.told d told in
+    let told_mid : g.H.Host.disk c.sync.new.self ≡ Some (settled d) = to.1 ∙ ap Some to.2.ok in
+    let now = c.in_ok-open_settled.ensures.ok (within c.args.limit) (settled d) told_mid in
+    (now.0, now.1, now.2, ap (λ (a : Area). a.reads) now.3, now.4)
+
+pub returns-clause-unwritten : goal.returns-clause-unwritten
+returns-clause-unwritten g c = λ d told not_fresh.
+    let to = c.in_ok-sync.ensures.disk.told d told in
+    let told_mid : g.H.Host.disk c.sync.new.self ≡ Some (settled d) = to.1 ∙ ap Some to.2.ok in
+    inr (c.in_ok-open_settled.ensures.unwritten (settled d) told_mid not_fresh ∙ told_mid)
