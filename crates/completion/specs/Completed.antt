@@ -1,0 +1,28 @@
+-- What is completed of asserted rows.
+use Rattle.std.specs.Prelude.{◌≡◌, ◌↔◌, ℕ, List, length}
+use Rattle.dl_base.specs.Ontology.{Terminology}
+use Rattle.dl_base.specs.Sets.{HasRole}
+use Rattle.dl_base.specs.declared.concept.Role.{Role}
+use Rattle.dl_base.specs.declared.row.Row.{Row}
+use Rattle.witness_book.specs.Witnesses.{Witnesses, generation_of}
+use Rattle.completion.specs.Individuals.{AreAtIndividuals}
+use Rattle.completion.specs.Numbered.{IsLiveRole}
+use Rattle.completion.specs.declared.individuals.AtIndividual.{AtIndividual}
+
+-- what is derived at individuals, and the book of witnesses
+pub record Completion : Type 0 where
+  pub individuals : List (ℕ × AtIndividual)
+  pub book : Witnesses
+
+-- the book is for the roles of the ontology, the live roles were set once, they are those of the rows, and each is in its
+-- first generation
+pub record IsFirstBook (o : Terminology) (rows : List Row) (b : Witnesses) : Type 0 where
+  pub roles : b.roles ≡ length o.roles
+  pub calls : b.calls ≡ 1
+  pub live : (r : Role) → HasRole b.live r ↔ IsLiveRole o rows r
+  pub first : (r : Role) → IsLiveRole o rows r → generation_of b r ≡ 1
+
+-- it is what the ontology derives from the rows
+pub record IsCompletionOf (o : Terminology) (rows : List Row) (c : Completion) : Type 0 where
+  pub individuals : AreAtIndividuals o rows c.individuals
+  pub book : IsFirstBook o rows c.book

@@ -1,0 +1,5 @@
+pub mod Numbered
+pub mod Points
+pub mod Individuals
+pub mod Completed
+pub mod Named

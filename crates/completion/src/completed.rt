@@ -1,0 +1,91 @@
+//! What is completed of asserted rows.
+ghost use Rattle.std.specs.Prelude.{◌≡◌, ◌≤◌, ◌+◌, ℕ, List, All, IfOk, MatchOption, None, Some, length};
+ghost use Rattle.assert_tables.specs.Rows.{individuals_of};
+ghost use Rattle.completion.specs.Completed.{IsCompletionOf, IsFirstBook};
+ghost use Rattle.completion.specs.Individuals.{IsKept, IsLeastNumber, found_at};
+ghost use Rattle.completion.specs.Named.{IsNamedCompletion, StandFor};
+ghost use Rattle.completion.specs.Numbered.{IsRowOf};
+ghost use Rattle.dl_base.specs.declared.row.NamedRow.{NamedRow};
+ghost use Rattle.completion.specs.declared.individuals.AtIndividual.{AtIndividual as AnyAt};
+ghost use Rattle.horn_closure.specs.Closure.{IsScratchOf};
+ghost use Rattle.role_graph.specs.Graph.{IsGraphOf};
+
+use crate::individuals::{AtIndividual, at_individuals, next_in};
+use assert_tables::Assertions;
+use dl_base::RoleSet;
+use horn_closure::{Closed, Rules, Scratch, Steps};
+use role_graph::RoleGraph;
+use std::alloc::{AllocError, Global};
+use std::collections::BTreeMap;
+use std::marker::Model;
+use std::sync::ledger::Ledger;
+use witness_book::WitnessBook;
+
+/// What an ontology derives from asserted rows: the closure of each individual that they name, and the book of the
+/// witnesses that are needed. Memory and time follow the rows and their individuals, however great the numbers are.
+#[derive(Drop)]
+pub struct Completed {
+    individuals: BTreeMap<u32, AtIndividual>,
+    book: WitnessBook,
+}
+
+impl Model for Completed {
+    ghost use Rattle.completion.specs.Completed.{Completion};
+
+    ghost Value = { Completion };
+
+    ghost view = { λ c. record { individuals = c.individuals.entries; book = c.book } };
+}
+
+impl Completed {
+    /// What the ontology derives from the rows. It takes at most one step for each individual that they name.
+    pub fn afresh<L: Ledger>(
+        alloc: Global,
+        rules: &Rules,
+        graph: &RoleGraph,
+        rows: &Assertions,
+        scratch: &mut Scratch,
+        steps: &mut Steps<L>,
+    ) -> Result<Completed, AllocError>
+        requires graph { IsGraphOf rules.now graph.now }
+        requires scratch { IsScratchOf rules.now scratch.old }
+        requires within { All (IsRowOf rules.now) rows.now }
+        ensures completion { IfOk result (IsCompletionOf rules.now rows.now) }
+        ensures named { (names : List (List ℕ)) (these : List NamedRow) → StandFor rules.now names rows.now these → IfOk result (IsNamedCompletion rules.now names these) }
+        ensures scratch { scratch.new ≡ scratch.old }
+        ensures most { steps.new ≤ steps.old + length (individuals_of rows.now) }
+    {
+        let mut pointed = RoleSet::new();
+        let individuals = at_individuals(alloc, rules, rows, &mut pointed, scratch, steps)?;
+        let live = graph.live(&pointed);
+        let mut book = WitnessBook::new(alloc, rules.roles().len() as u32)?;
+        book.set_live(&live);
+        Ok(Completed { individuals, book })
+    }
+
+    /// The book of the witnesses. It takes no memory, nor do the calls below.
+    pub fn book(&self) -> &WitnessBook
+        ensures { result.now ≡ self.now.book }
+    {
+        &self.book
+    }
+
+    /// The least individual above `after`, or of all; none where there is none.
+    pub fn next_individual(&self, after: Option<u32>) -> Option<u32>
+        ensures { IsLeastNumber (IsKept self.now.individuals) after result }
+    {
+        next_in(&self.individuals, after)
+    }
+
+    /// What is derived at the individual of this number, or `None` exactly where it is none of the rows' individuals.
+    pub fn closed_of(&self, individual: u32) -> Option<&Closed>
+        ensures { MatchOption result
+            (found_at self.now.individuals individual ≡ None)
+            (λ c. (x : AnyAt) × (found_at self.now.individuals individual ≡ Some x) × (c.now ≡ x.closed)) }
+    {
+        match self.individuals.get(&individual) {
+            Some(at) => Some(&at.closed),
+            None => None,
+        }
+    }
+}
