@@ -8,7 +8,7 @@ use Rattle.std.proofs.lemmas.Bool.{cases_order}
 use Rattle.std.proofs.lemmas.Bool.Decides.{nat_tests}
 use Rattle.std.proofs.lemmas.List.Elements.{Contains-get_or}
 use Rattle.std.proofs.lemmas.List.Kept.{AllPairs-cons}
-use Rattle.assert_tables.specs.Rows.{IsAbove, IsNextIndividual, individuals_of}
+use Rattle.assert_tables.specs.Rows.{IsNumberAbove, IsNextIndividual, individuals_of}
 use Rattle.assert_tables.proofs.CountLemmas.{named_individual}
 use Rattle.completion.specs.Individuals.{AreAtIndividuals, IsAt, IsKept, found_at}
 use Rattle.completion.specs.Numbered.{IsNamed, IsPointedTo, PointsTo}
@@ -22,7 +22,7 @@ use Rattle.dl_base.proofs.RisingLemmas.{contains_cases, nat_same}
 
 -- ---- the individuals gone through
 
-above_on : (after : Option ℕ) (i n : ℕ) → IsAbove after i → i < n → IsAbove after n
+above_on : (after : Option ℕ) (i n : ℕ) → IsNumberAbove after i → i < n → IsNumberAbove after n
 above_on None i n above less = tt
 above_on (Some a) i n above less = omega arith
 
@@ -31,7 +31,7 @@ pub record Gone (rows : List Row) (after : Option ℕ) (start steps : ℕ) : Typ
   pub list : List ℕ
   pub distinct : AllPairs (λ x y. x ≢ y) list
   pub inside : (n : ℕ) → Contains list n → Contains (individuals_of rows) n
-  pub upto : (n : ℕ) → Contains list n → IsAbove after n → ⊥
+  pub upto : (n : ℕ) → Contains list n → IsNumberAbove after n → ⊥
   pub number : steps ≡ start + length list
 
 pub gone_none : (rows : List Row) (start : ℕ) → Gone rows None start start
@@ -74,12 +74,12 @@ gone_few rows after start steps gone =
 -- up to that one each individual of the rows is kept, and no other number
 pub record KeptUpTo (o : Terminology) (rows : List Row) (after : Option ℕ) (map : List (ℕ × AtIndividual)) : Type 0 where
   pub sound : (n : ℕ) (x : AtIndividual) → found_at map n ≡ Some x → IsNamed rows n × IsAt o rows n x
-  pub each : (n : ℕ) → IsNamed rows n → (IsAbove after n → ⊥) → IsKept map n
+  pub each : (n : ℕ) → IsNamed rows n → (IsNumberAbove after n → ⊥) → IsKept map n
 
 -- the roles to which these point were added
 pub record PointedUpTo (o : Terminology) (rows : List Row) (after : Option ℕ) (old pointed : List ℕ) : Type 0 where
   pub sound : (r : Role) → HasRole pointed r → IsPointedTo o rows r ⊎ HasRole old r
-  pub each : (r : Role) (n : ℕ) → IsNamed rows n → (IsAbove after n → ⊥) → PointsTo o rows n r → HasRole pointed r
+  pub each : (r : Role) (n : ℕ) → IsNamed rows n → (IsNumberAbove after n → ⊥) → PointsTo o rows n r → HasRole pointed r
   pub stays : (r : Role) → HasRole old r → HasRole pointed r
 
 pub kept_none : (o : Terminology) (rows : List Row) (map : List (ℕ × AtIndividual)) → map ≡ [] → KeptUpTo o rows None map
@@ -92,7 +92,7 @@ pub pointed_none : (o : Terminology) (rows : List Row) (old : List ℕ) → Poin
 pointed_none o rows old = record { sound = λ r h. inr h; each = λ r n named not points. absurd (not tt); stays = λ r h. h }
 
 -- an individual up to the next is the next, or one that was gone through
-next_or_gone : (rows : List Row) (after : Option ℕ) (i n : ℕ) → IsNextIndividual rows after (Some i) → IsNamed rows n → (i < n → ⊥) → (n ≡ i) ⊎ (IsAbove after n → ⊥)
+next_or_gone : (rows : List Row) (after : Option ℕ) (i n : ℕ) → IsNextIndividual rows after (Some i) → IsNamed rows n → (i < n → ⊥) → (n ≡ i) ⊎ (IsNumberAbove after n → ⊥)
 next_or_gone rows after i n next named not = elim (cases_order n i) [
   | inl same ↦ inl same
   | inr rest ↦ elim rest [ inl less ↦ inr (λ above. next.2 named.0 n named.1 named.2 above less) | inr more ↦ absurd (not more) ]

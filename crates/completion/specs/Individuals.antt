@@ -3,7 +3,7 @@ use Rattle.std.specs.Prelude.{◌≡◌, ◌↔◌, ◌≤◌, ℕ, List, Option
 use Rattle.std.specs.BTreeMap.{is_at}
 use Rattle.std.specs.Map.{lookup}
 use Rattle.std.specs.Ordering.{nat_cmp}
-use Rattle.assert_tables.specs.Rows.{IsAbove}
+use Rattle.assert_tables.specs.Rows.{IsNumberAbove}
 use Rattle.dl_base.specs.Ontology.{Terminology}
 use Rattle.dl_base.specs.Sets.{HasRole}
 use Rattle.dl_base.specs.declared.concept.Role.{Role}
@@ -32,5 +32,5 @@ pub record AreAtIndividuals (o : Terminology) (rows : List Row) (list : List (�
 
 -- the least of these numbers above that one, or of all, and none exactly where there is none
 abbrev pub IsLeastNumber : (ℕ → Type 0) → Option ℕ → Option ℕ → Type 0
-IsLeastNumber has after None = (n : ℕ) → has n → IsAbove after n → ⊥
-IsLeastNumber has after (Some b) = has b × IsAbove after b × ((n : ℕ) → has n → IsAbove after n → b ≤ n)
+IsLeastNumber has after None = (n : ℕ) → has n → IsNumberAbove after n → ⊥
+IsLeastNumber has after (Some b) = has b × IsNumberAbove after b × ((n : ℕ) → has n → IsNumberAbove after n → b ≤ n)
