@@ -1,6 +1,6 @@
 // Documents and their replies, through the top call.
 use super::*;
-use host_io::{Areas, Bytes, Calls, MemHost, MemSource, Source, StdSource};
+use host_io::{Areas, Bytes, Calls, Failed, Host, MemHost, MemSource, Source, StdSource};
 use std::alloc::Global;
 use std::io::{self, Read};
 use std::process::Abort;
@@ -263,6 +263,16 @@ fn command_line(alloc: Global, words: &[&str]) -> Result<Vec<String>, Fail> {
     Ok(line)
 }
 
+// The top call over any source and host. It has no clause, so that what a test proves stays small.
+fn run<S: Source, H: Host>(
+    alloc: Global,
+    words: &Vec<String>,
+    source: &mut S,
+    host: &mut H,
+) -> Status {
+    serve(alloc, words, source, host)
+}
+
 // A run over a document, how it ends, and the last bytes that it prints.
 fn ends(
     rt: &impl Abort,
@@ -274,7 +284,7 @@ fn ends(
     let words = command_line(alloc, &["answer"])?;
     let mut source = MemSource::new(document, Calls::new(alloc));
     let mut host = MemHost::new(alloc, Areas::new(alloc), Calls::new(alloc));
-    assert_eq!(rt; serve(alloc, &words, &mut source, &mut host), want);
+    assert_eq!(rt; run(alloc, &words, &mut source, &mut host), want);
     assert!(rt; host.printed().items().ends_with(tail));
     Ok(())
 }
@@ -304,11 +314,17 @@ fn documents_have_their_replies(rt: HostRuntime) -> Result<(), Fail> {
         for size in [1, 2, 4095] {
             let mut source = StdSource::new(Pieces { bytes, size });
             let mut host = MemHost::new(alloc, Areas::new(alloc), Calls::new(alloc));
-            assert_eq!(rt; serve(alloc, &words, &mut source, &mut host), want);
+            assert_eq!(rt; run(alloc, &words, &mut source, &mut host), want);
             assert_eq!(rt; host.printed().items(), printed);
         }
     }
     Ok(())
+}
+
+// How many bytes one read takes, eight at most.
+fn bytes_left<S: Source>(source: &mut S) -> Result<usize, Failed> {
+    let mut buf = [0u8; 8];
+    source.read(&mut buf)
 }
 
 #[test]
@@ -319,10 +335,9 @@ fn other_words_touch_nothing(rt: HostRuntime) -> Result<(), Fail> {
         let words = command_line(alloc, line)?;
         let mut source = MemSource::new(Bytes::from_slice(alloc, b"rest")?, Calls::new(alloc));
         let mut host = MemHost::new(alloc, Areas::new(alloc), Calls::new(alloc));
-        assert_eq!(rt; serve(alloc, &words, &mut source, &mut host), Status::Usage);
+        assert_eq!(rt; run(alloc, &words, &mut source, &mut host), Status::Usage);
         assert_eq!(rt; host.calls(), 0);
-        let mut buf = [0u8; 8];
-        assert_eq!(rt; source.read(&mut buf), Ok(4));
+        assert_eq!(rt; bytes_left(&mut source), Ok(4));
     }
     Ok(())
 }
@@ -335,7 +350,7 @@ fn the_first_fault_ends_the_run(rt: HostRuntime) -> Result<(), Fail> {
     let mut source = MemSource::new(document, Calls::from_slice(alloc, &[1])?);
     let mut host = MemHost::new(alloc, Areas::new(alloc), Calls::new(alloc));
     assert_eq!(rt;
-        serve(alloc, &words, &mut source, &mut host),
+        run(alloc, &words, &mut source, &mut host),
         Status::ReadFault
     );
     assert_eq!(rt; host.calls(), 0);
@@ -343,7 +358,7 @@ fn the_first_fault_ends_the_run(rt: HostRuntime) -> Result<(), Fail> {
     let mut source = MemSource::new(document, Calls::new(alloc));
     let mut host = MemHost::new(alloc, Areas::new(alloc), Calls::from_slice(alloc, &[1])?);
     assert_eq!(rt;
-        serve(alloc, &words, &mut source, &mut host),
+        run(alloc, &words, &mut source, &mut host),
         Status::PrintFault
     );
     assert_eq!(rt; host.printed().items(), b"".as_slice());
