@@ -5,7 +5,7 @@ use Rattle.std.specs.declared.cmp.Ordering.{Ordering}
 use Rattle.std.specs.declared.cmp.Ordering.TheVariants.{Less, Equal, Greater}
 use Rattle.std.specs.Ordering.{is_lt}
 use Rattle.std.proofs.lemmas.Cmp.{tied_itself}
-use Rattle.assert_tables.specs.Rows.{IsBehind, IsNamedIn, IsNextOf}
+use Rattle.assert_tables.specs.Rows.{IsRowBehind, IsNamedIn, IsNextOf}
 use Rattle.completion.specs.Numbered.{GivesBasic, HoldsBy}
 use Rattle.dl_base.specs.Rows.{numbered_row_cmp}
 use Rattle.dl_base.specs.Sets.{HasBasic}
@@ -37,15 +37,15 @@ bit_upto false c h = omega arith
 bit_upto true false h = absurd (let e : false ≡ true = h refl in cc)
 bit_upto true true h = omega arith
 
-behind_on : (after : Option Row) (r q : Row) → IsBehind after r → numbered_row_cmp r q ≡ Less → IsBehind after q
+behind_on : (after : Option Row) (r q : Row) → IsRowBehind after r → numbered_row_cmp r q ≡ Less → IsRowBehind after q
 behind_on None r q behind less = tt
 behind_on (Some a) r q behind less = numbered_total.trans a r q behind less
 
-behind_true : (after : Option Row) (q : Row) → IsBehind after q → is_behind after q ≡ true
+behind_true : (after : Option Row) (q : Row) → IsRowBehind after q → is_behind after q ≡ true
 behind_true None q h = refl
 behind_true (Some a) q h = ap is_lt h
 
-module _ (after : Option Row) (r : Row) (behind : IsBehind after r) where
+module _ (after : Option Row) (r : Row) (behind : IsRowBehind after r) where
   kept_behind : (q : Row) → is_behind (Some r) q ≡ true → is_behind after q ≡ true
   kept_behind q e = behind_true after q (behind_on after r q behind (less_of (numbered_row_cmp r q) e))
 
@@ -75,7 +75,7 @@ module _ (after : Option Row) (r : Row) (behind : IsBehind after r) where
 
 -- what is held by the rows that aren't behind that one
 pub record HeldUpTo (rows : List Row) (n : ℕ) (after : Option Row) (held : List ℕ) : Type 0 where
-  pub each : (b : Basic) → HasBasic held b ↔ ((r : Row) × Contains rows r × (IsBehind after r → ⊥) × GivesBasic r n b)
+  pub each : (b : Basic) → HasBasic held b ↔ ((r : Row) × Contains rows r × (IsRowBehind after r → ⊥) × GivesBasic r n b)
 
 -- a row that gives an individual something names it
 pub gives_named : (r : Row) (n : ℕ) (b : Basic) → GivesBasic r n b → IsNamedIn n r
@@ -86,7 +86,7 @@ gives_named (row.Role p a d) n b (inr g) = inr (sym g.0)
 pub held_none : (rows : List Row) (n : ℕ) (held : List ℕ) → ((b : Basic) → HasBasic held b → ⊥) → HeldUpTo rows n None held
 held_none rows n held none = record { each = λ b. (λ h. absurd (none b h), λ found. absurd (found.2 tt)) }
 
-behind_or_not : (after : Option Row) (q : Row) → IsBehind after q ⊎ (IsBehind after q → ⊥)
+behind_or_not : (after : Option Row) (q : Row) → IsRowBehind after q ⊎ (IsRowBehind after q → ⊥)
 behind_or_not None q = inl tt
 behind_or_not (Some a) q = by (numbered_row_cmp a q) refl
   where
@@ -97,16 +97,16 @@ behind_or_not (Some a) q = by (numbered_row_cmp a q) refl
 
 module _ (rows : List Row) (n : ℕ) (after : Option Row) (r : Row) (held new : List ℕ) (next : IsNextOf rows n after (Some r))
     (adds : (b : Basic) → HasBasic new b ↔ (GivesBasic r n b ⊎ HasBasic held b)) (far : HeldUpTo rows n after held) where
-  not_behind_itself : IsBehind (Some r) r → ⊥
+  not_behind_itself : IsRowBehind (Some r) r → ⊥
   not_behind_itself e = absurd (let f = tied_itself numbered_total r in cc)
 
-  into : (b : Basic) → HasBasic new b → (q : Row) × Contains rows q × (IsBehind (Some r) q → ⊥) × GivesBasic q n b
+  into : (b : Basic) → HasBasic new b → (q : Row) × Contains rows q × (IsRowBehind (Some r) q → ⊥) × GivesBasic q n b
   into b h = elim ((adds b).0 h) [
     | inl gives ↦ (r, next.0, not_behind_itself, gives)
     | inr before ↦ (let found = (far.each b).0 before in (found.0, found.1, λ less. found.2 (behind_on after r found.0 next.2 less), found.3))
   ]
 
-  at_most : (q : Row) (b : Basic) → Contains rows q → (IsBehind (Some r) q → ⊥) → GivesBasic q n b → IsBehind after q ⊎ (IsBehind after q → ⊥) → GivesBasic r n b ⊎ HasBasic held b
+  at_most : (q : Row) (b : Basic) → Contains rows q → (IsRowBehind (Some r) q → ⊥) → GivesBasic q n b → IsRowBehind after q ⊎ (IsRowBehind after q → ⊥) → GivesBasic r n b ⊎ HasBasic held b
   at_most q b c not_less gives (inr not) = inr ((far.each b).1 (q, c, not, gives))
   at_most q b c not_less gives (inl behind) = by (numbered_row_cmp r q) refl
     where
