@@ -38,12 +38,6 @@ pub ruleset known_or_new = (known_name, new_name)
 
 -- ---- lists of names
 
-pub adds_then : (a b d : Vocabulary) (c1 r1 c2 r2 : List (List ℕ)) → AddsNames a c1 r1 b → AddsNames b c2 r2 d → AddsNames a (c1 ++ c2) (r1 ++ r2) d
-adds_then a b d c1 r1 c2 r2 x y = record {
-  concepts = y.concepts ∙ ap (λ (o : List (List ℕ)). with_names o c2) x.concepts ∙ sym (fold-append with_name a.concepts c1 c2);
-  roles = y.roles ∙ ap (λ (o : List (List ℕ)). with_names o r2) x.roles ∙ sym (fold-append with_name a.roles r1 r2);
-}
-
 -- what is still to be added to what the loop has leads to the same names
 pub record AddsAlong {X : Type 0} (f g : X → List (List ℕ)) (xs : List X) (old now : Vocabulary) (i : ℕ) : Type 0 where
   pub concepts : with_names now.concepts (flat_map f (drop i xs)) ≡ with_names old.concepts (flat_map f xs)

@@ -1,10 +1,8 @@
 //! Reading a whole axiom.
 
 ghost use Rattle.std.specs.Prelude.{◌≡◌, IfOk, IfErr};
-ghost use Rattle.grammar.specs.Reading.{Gives, whole};
 ghost use Rattle.axiom_reader.specs.declared.tree.AxiomTree.{AxiomTree};
 ghost use Rattle.axiom_reader.specs.AxiomGrammar.{axiom_text};
-ghost use Rattle.axiom_reader.specs.AxiomReading.{tree_at};
 ghost use Rattle.axiom_reader.specs.AxiomFault.{IsAxiomFault};
 ghost use Rattle.axiom_reader.specs.AxiomMeaning.{meaning, HasMembers};
 
@@ -13,7 +11,7 @@ use crate::inclusions::add_inclusions;
 use crate::tree::AxiomTree;
 use crate::vocabulary::Vocabulary;
 use dl_base::{Axiom, Items};
-use grammar::ReadError;
+use grammar::{ReadError, whole};
 use std::alloc::{AllocError, Global};
 use thiserror::Error;
 
@@ -29,23 +27,13 @@ pub enum AxiomError {
     NoMemory,
 }
 
-fn whole_tree(alloc: Global, text: &[u8]) -> Result<AxiomTree, ReadError>
-    ensures { Gives (λ t. t) result (whole (tree_at text.now)) }
-{
-    let (tree, rest) = read_tree(alloc, text)?;
-    if !rest.is_empty() {
-        return Err(ReadError::Fault(rest.len()));
-    }
-    Ok(tree)
-}
-
 /// The syntax tree of the axiom that the text is.
 fn read_axiom_tree(alloc: Global, text: &[u8]) -> Result<AxiomTree, AxiomError>
     ensures found { IfOk result (λ tree. axiom_text text.now tree) }
     ensures only { IfOk result (λ tree. (other : AxiomTree) → axiom_text text.now other → other ≡ tree) }
     ensures fault { IfErr result (λ error. IsAxiomFault text.now error) }
 {
-    match whole_tree(alloc, text) {
+    match whole(read_tree(alloc, text)) {
         Ok(tree) => Ok(tree),
         Err(ReadError::Fault(left)) => Err(AxiomError::Syntax((text.len() - left + 1) as u64)),
         Err(ReadError::Memory) => Err(AxiomError::NoMemory),

@@ -2,7 +2,7 @@
 
 ghost use Rattle.std.specs.Prelude.{◌≡◌, ◌+◌, ◌^◌, ◌<◌, ◌++◌, ◌∷◌, ◌↔◌, [], IfOk, OnOk, IsTrue, List, length};
 ghost use Rattle.std.specs.Option.{option_copied};
-ghost use Rattle.grammar.specs.Reading.{Gives, whole};
+ghost use Rattle.grammar.specs.Reading.{Gives};
 ghost use Rattle.axiom_reader.specs.Block.{Line, IsSkipped, HoldsAxiom, TakesAxiom, Steps, ComesTo, IsProgressOf, BlockGives};
 ghost use Rattle.axiom_reader.specs.BlockReading.{line_at};
 
@@ -10,7 +10,7 @@ use crate::axiom::axiom_of;
 use crate::forms::read_tree;
 use crate::tree::AxiomTree;
 use dl_base::{Axiom, ExtendError, Ontology};
-use grammar::{ReadError, next_is_byte, skip_blanks};
+use grammar::{ReadError, next_is_byte, skip_blanks, whole};
 use std::alloc::{AllocError, Global};
 use std::marker::Model;
 use std::mem;
@@ -50,23 +50,20 @@ fn is_skipped(text: &[u8]) -> bool
 
 /// The syntax tree of the axiom of a line, with blanks before and behind it.
 #[tactic(auto, unfolding(crate::specs::BlockReading::line_at))]
-fn read_line_tree(alloc: Global, text: &[u8]) -> Result<AxiomTree, ReadError>
-    ensures { Gives (λ t. t) result (whole (line_at text.now)) }
+fn read_line_tree(alloc: Global, text: &[u8]) -> Result<(AxiomTree, &[u8]), ReadError>
+    ensures { Gives (λ x. (x.0, x.1.now)) result (line_at text.now) }
 {
     let (_, rest) = skip_blanks(text);
     let (tree, rest) = read_tree(alloc, rest)?;
     let (_, rest) = skip_blanks(rest);
-    if !rest.is_empty() {
-        return Err(ReadError::Fault(rest.len()));
-    }
-    Ok(tree)
+    Ok((tree, rest))
 }
 
 /// The axiom of a line, or nothing where it holds none.
 fn read_line(alloc: Global, text: &[u8]) -> Result<Option<Axiom>, AllocError>
     ensures { IfOk result (HoldsAxiom text.now) }
 {
-    match read_line_tree(alloc, text) {
+    match whole(read_line_tree(alloc, text)) {
         Ok(tree) => Ok(Some(axiom_of(alloc, &tree)?)),
         Err(ReadError::Fault(_)) => Ok(None),
         Err(ReadError::Memory) => Err(AllocError),

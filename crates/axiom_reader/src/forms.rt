@@ -5,10 +5,10 @@
 ghost use Rattle.grammar.specs.Reading.{Gives};
 ghost use Rattle.axiom_reader.specs.AxiomReading.{sub_class_of_at, equivalent_at, disjoint_behind_at, domain_behind_at, range_at, class_at, property_at, behind_d_at, tree_at};
 
-use crate::parts::{read_left, read_right, read_role, read_sides_on};
-use crate::tree::AxiomTree;
+use crate::parts::{Listed, TwoToEight, read_right, read_role};
+use crate::tree::{AxiomTree, Members};
 use dl_base::read_name;
-use grammar::{ReadError, expect, next_is_byte, skip_blanks, some_blanks};
+use grammar::{ReadError, expect, next_is_byte, read_list, skip_blanks, some_blanks};
 use std::alloc::Global;
 
 #[tactic(auto, unfolding(crate::specs::AxiomReading::sub_class_of_at))]
@@ -17,7 +17,7 @@ fn read_sub_class_of(alloc: Global, text: &[u8]) -> Result<(AxiomTree, &[u8]), R
 {
     let rest = expect(b"SubClassOf(", text)?;
     let (_, rest) = skip_blanks(rest);
-    let (left, rest) = read_left(alloc, rest)?;
+    let (left, rest) = Members::read(alloc, rest)?;
     let (_, rest) = some_blanks(rest)?;
     let (right, rest) = read_right(alloc, rest)?;
     let (_, rest) = skip_blanks(rest);
@@ -31,9 +31,9 @@ fn read_equivalent(alloc: Global, text: &[u8]) -> Result<(AxiomTree, &[u8]), Rea
 {
     let rest = expect(b"Equivalent(", text)?;
     let (_, rest) = skip_blanks(rest);
-    let (one, rest) = read_left(alloc, rest)?;
+    let (one, rest) = Members::read(alloc, rest)?;
     let (_, rest) = some_blanks(rest)?;
-    let (other, rest) = read_left(alloc, rest)?;
+    let (other, rest) = Members::read(alloc, rest)?;
     let (_, rest) = skip_blanks(rest);
     let rest = expect(b")", rest)?;
     Ok((AxiomTree::Equivalent(one, other), rest))
@@ -46,8 +46,8 @@ fn read_disjoint_behind(alloc: Global, text: &[u8]) -> Result<(AxiomTree, &[u8])
 {
     let rest = expect(b"isjoint(", text)?;
     let (_, rest) = skip_blanks(rest);
-    let (first, rest) = read_left(alloc, rest)?;
-    let (sides, rest) = read_sides_on(alloc, first, rest)?;
+    let (first, rest) = Members::read(alloc, rest)?;
+    let (sides, rest) = read_list::<TwoToEight<Members>>(alloc, first, rest)?;
     Ok((AxiomTree::Disjoint(sides), rest))
 }
 

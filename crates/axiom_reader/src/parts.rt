@@ -3,15 +3,19 @@
 //! Each reader gives the value and the text behind it, or how many bytes are left at the fault. A word that may be a
 //! name or a keyword is read first, and what stands behind it is read by what it is.
 
-ghost use Rattle.std.specs.Prelude.{◌≡◌, ◌+◌, ◌≤◌, false, [], ◌∷◌, length};
-ghost use Rattle.grammar.specs.Reading.{Gives, until_at, onto};
+ghost use Rattle.std.specs.Prelude.{ℕ, ◌≤◌, false, List, [], ◌∷◌, length};
+ghost use Rattle.grammar.specs.Reading.{Gives, Outcome};
 ghost use Rattle.dl_base.specs.Names.{IsWord};
 ghost use Rattle.axiom_reader.specs.AxiomReading.{inverse_at, role_at, exists_at, basic_behind_at, basic_at, another_at, conjunction_at, left_behind_at, left_at, right_behind_at, right_at};
 
-use crate::tree::{Members, RightSide, Sides};
+use crate::tree::{Members, RightSide};
 use dl_base::{Items, Name, NamedBasic, NamedRole, is_reserved, read_angled, read_name, read_word};
-use grammar::{Kind, ReadError, expect, next_is_byte, next_is_kind, skip_blanks, some_blanks};
+use grammar::{
+    Kind, ListTail, ReadError, expect, next_is_byte, next_is_kind, read_list, skip_blanks,
+    some_blanks,
+};
 use std::alloc::Global;
+use std::marker::PhantomData;
 
 /// What stands behind the word `Inv`.
 #[tactic(auto, unfolding(crate::specs::AxiomReading::inverse_at))]
@@ -91,66 +95,61 @@ fn read_basic_behind<'a>(
     Ok((NamedBasic::Concept(name), text))
 }
 
-/// A basic concept.
-#[tactic(auto, unfolding(crate::specs::AxiomReading::basic_at))]
-fn read_basic(alloc: Global, text: &[u8]) -> Result<(NamedBasic, &[u8]), ReadError>
-    ensures { Gives (λ x. (x.0, x.1.now)) result (basic_at text.now) }
-{
-    if next_is_kind(Kind::Starting, text) {
-        let (word, rest) = read_word(text)?;
-        read_basic_behind(alloc, word, rest)
-    } else {
-        let (name, rest) = read_angled(alloc, text)?;
-        Ok((NamedBasic::Concept(name), rest))
-    }
+/// What stands in lists of two to eight.
+pub(crate) trait Listed: Drop {
+    /// What is read from the front of a text.
+    ghost read_at: { List ℕ → Outcome Self };
+
+    /// The value at the front of the text, and the text behind it.
+    fn read(alloc: Global, text: &[u8]) -> Result<(Self, &[u8]), ReadError>
+        ensures { Gives (λ x. (x.0, x.1.now)) result (read_at text.now) };
 }
 
-/// Behind so many members after the first: another, or the closing bracket.
-#[tactic(auto, unfolding(crate::specs::AxiomReading::another_at))]
-fn read_another_basic(
-    alloc: Global,
-    count: usize,
-    text: &[u8],
-) -> Result<(Option<NamedBasic>, &[u8]), ReadError>
-    ensures { Gives (λ x. (x.0, x.1.now)) result (another_at basic_at count text.now) }
-{
-    if count == 0 {
-        let (_, rest) = some_blanks(text)?;
-        let (basic, rest) = read_basic(alloc, rest)?;
-        return Ok((Some(basic), rest));
-    }
-    let (blanks, rest) = skip_blanks(text);
-    if count >= 7 || blanks.is_empty() || next_is_byte(b')', rest) {
-        let rest = expect(b")", rest)?;
-        Ok((None, rest))
-    } else {
-        let (basic, rest) = read_basic(alloc, rest)?;
-        Ok((Some(basic), rest))
-    }
+/// Lists of two to eight, of which the closing bracket is read too.
+pub(crate) struct TwoToEight<V> {
+    items: PhantomData<V>,
 }
 
-/// The first member, and behind it the others up to the closing bracket.
-#[tactic(auto, using(grammar::proofs::Loops::lists))]
-fn read_members_on(
-    alloc: Global,
-    first: NamedBasic,
-    text: &[u8],
-) -> Result<(Members, &[u8]), ReadError>
-    ensures { Gives (λ x. (x.0, x.1.now)) result
-        (onto (first ∷ []) (until_at (another_at basic_at) (length text.now + 1) 0 text.now)) }
-{
-    let mut members = Items::new(alloc);
-    members.push(first)?;
-    let mut rest = text;
-    for i in 0..text.len() + 1 {
-        let (item, after) = read_another_basic(alloc, i, rest)?;
-        rest = after;
-        match item {
-            Some(basic) => members.push(basic)?,
-            None => return Ok((members, rest)),
+impl<V: Listed> ListTail for TwoToEight<V> {
+    type Item = V;
+
+    ghost another_at = { another_at V.read_at };
+
+    #[tactic(auto, unfolding(crate::specs::AxiomReading::another_at))]
+    fn read_another(
+        alloc: Global,
+        count: usize,
+        text: &[u8],
+    ) -> Result<(Option<V>, &[u8]), ReadError> {
+        if count == 0 {
+            let (_, rest) = some_blanks(text)?;
+            let (item, rest) = V::read(alloc, rest)?;
+            return Ok((Some(item), rest));
+        }
+        let (blanks, rest) = skip_blanks(text);
+        if count >= 7 || blanks.is_empty() || next_is_byte(b')', rest) {
+            let rest = expect(b")", rest)?;
+            Ok((None, rest))
+        } else {
+            let (item, rest) = V::read(alloc, rest)?;
+            Ok((Some(item), rest))
         }
     }
-    Err(ReadError::Fault(rest.len()))
+}
+
+impl Listed for NamedBasic {
+    ghost read_at = { basic_at };
+
+    #[tactic(auto, unfolding(crate::specs::AxiomReading::basic_at))]
+    fn read(alloc: Global, text: &[u8]) -> Result<(NamedBasic, &[u8]), ReadError> {
+        if next_is_kind(Kind::Starting, text) {
+            let (word, rest) = read_word(text)?;
+            read_basic_behind(alloc, word, rest)
+        } else {
+            let (name, rest) = read_angled(alloc, text)?;
+            Ok((NamedBasic::Concept(name), rest))
+        }
+    }
 }
 
 /// What stands behind the word `And`.
@@ -160,8 +159,8 @@ fn read_conjunction(alloc: Global, text: &[u8]) -> Result<(Members, &[u8]), Read
 {
     let rest = expect(b"(", text)?;
     let (_, rest) = skip_blanks(rest);
-    let (first, rest) = read_basic(alloc, rest)?;
-    read_members_on(alloc, first, rest)
+    let (first, rest) = NamedBasic::read(alloc, rest)?;
+    read_list::<TwoToEight<NamedBasic>>(alloc, first, rest)
 }
 
 /// The left side of one basic concept.
@@ -191,17 +190,18 @@ fn read_left_behind<'a>(
     Ok((single(alloc, basic)?, rest))
 }
 
-/// A left side.
-#[tactic(auto, unfolding(crate::specs::AxiomReading::left_at))]
-pub(crate) fn read_left(alloc: Global, text: &[u8]) -> Result<(Members, &[u8]), ReadError>
-    ensures { Gives (λ x. (x.0, x.1.now)) result (left_at text.now) }
-{
-    if next_is_kind(Kind::Starting, text) {
-        let (word, rest) = read_word(text)?;
-        read_left_behind(alloc, word, rest)
-    } else {
-        let (name, rest) = read_angled(alloc, text)?;
-        Ok((single(alloc, NamedBasic::Concept(name))?, rest))
+impl Listed for Members {
+    ghost read_at = { left_at };
+
+    #[tactic(auto, unfolding(crate::specs::AxiomReading::left_at))]
+    fn read(alloc: Global, text: &[u8]) -> Result<(Members, &[u8]), ReadError> {
+        if next_is_kind(Kind::Starting, text) {
+            let (word, rest) = read_word(text)?;
+            read_left_behind(alloc, word, rest)
+        } else {
+            let (name, rest) = read_angled(alloc, text)?;
+            Ok((single(alloc, NamedBasic::Concept(name))?, rest))
+        }
     }
 }
 
@@ -236,52 +236,4 @@ pub(crate) fn read_right(alloc: Global, text: &[u8]) -> Result<(RightSide, &[u8]
         let members = single(alloc, NamedBasic::Concept(name))?;
         Ok((RightSide::Members(members), rest))
     }
-}
-
-/// Behind so many left sides after the first: another, or the closing bracket.
-#[tactic(auto, unfolding(crate::specs::AxiomReading::another_at))]
-fn read_another_left(
-    alloc: Global,
-    count: usize,
-    text: &[u8],
-) -> Result<(Option<Members>, &[u8]), ReadError>
-    ensures { Gives (λ x. (x.0, x.1.now)) result (another_at left_at count text.now) }
-{
-    if count == 0 {
-        let (_, rest) = some_blanks(text)?;
-        let (side, rest) = read_left(alloc, rest)?;
-        return Ok((Some(side), rest));
-    }
-    let (blanks, rest) = skip_blanks(text);
-    if count >= 7 || blanks.is_empty() || next_is_byte(b')', rest) {
-        let rest = expect(b")", rest)?;
-        Ok((None, rest))
-    } else {
-        let (side, rest) = read_left(alloc, rest)?;
-        Ok((Some(side), rest))
-    }
-}
-
-/// The first side, and behind it the others up to the closing bracket.
-#[tactic(auto, using(grammar::proofs::Loops::lists))]
-pub(crate) fn read_sides_on(
-    alloc: Global,
-    first: Members,
-    text: &[u8],
-) -> Result<(Sides, &[u8]), ReadError>
-    ensures { Gives (λ x. (x.0, x.1.now)) result
-        (onto (first ∷ []) (until_at (another_at left_at) (length text.now + 1) 0 text.now)) }
-{
-    let mut sides = Items::new(alloc);
-    sides.push(first)?;
-    let mut rest = text;
-    for i in 0..text.len() + 1 {
-        let (item, after) = read_another_left(alloc, i, rest)?;
-        rest = after;
-        match item {
-            Some(side) => sides.push(side)?,
-            None => return Ok((sides, rest)),
-        }
-    }
-    Err(ReadError::Fault(rest.len()))
 }

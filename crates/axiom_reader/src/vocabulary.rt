@@ -90,7 +90,6 @@ impl Vocabulary {
     }
 
     /// Appends the new ones of the axiom's names, in order of the text.
-    #[tactic(auto, using(crate::proofs::NamesRules::adds_then))]
     pub(crate) fn add_axiom(&mut self, alloc: Global, tree: &AxiomTree) -> Result<(), AllocError>
         ensures { OnOk result (AddsNames self.old (concepts_in tree.now) (roles_in tree.now) self.new) }
     {

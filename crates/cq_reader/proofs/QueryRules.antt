@@ -4,7 +4,8 @@ use Rattle.std.specs.Prelude.{codes, ◌==◌}
 use Rattle.grammar.specs.Bytes.{is_blank, is_name_byte, starts_name}
 use Rattle.grammar.specs.Grammar.{Grammar, ◌>>=◌, ◌>>◌, ◌∣◌, means, literal, many}
 use Rattle.grammar.specs.Blanks.{blanks}
-use Rattle.grammar.specs.Reading.{next_is}
+use Rattle.std.proofs.lemmas.List.{length-append}
+use Rattle.grammar.specs.Reading.{Outcome, next_is}
 use Rattle.grammar.proofs.Exact.{Follow, Same, Anything, Nothing, factor, same_or, same_refl, same_trans, same_sym, same_front, same_either, same_after, same_left, same_assoc, same_unit, same_means, same_spread}
 use Rattle.grammar.proofs.Parts.{Stops}
 use Rattle.grammar.proofs.ByteKinds.{apart_from, starting_not_blank, blank_not}
@@ -16,8 +17,8 @@ use Rattle.dl_base.specs.Query.{Question}
 use Rattle.dl_base.specs.declared.query.Term.{Term}
 use Rattle.dl_base.specs.declared.query.Atom.{Atom}
 use Rattle.dl_base.proofs.NameRules.{first_name, reads_name, reads_variable}
-use Rattle.cq_reader.specs.QueryText.{term, atom, listed, some_answers, query}
-use Rattle.cq_reader.specs.QueryReading.{term_at, atom_at, more_answers_at, answers_at, more_atoms_at, query_at}
+use Rattle.cq_reader.specs.QueryText.{term, atom, listed, some_answers, query, query_and_blanks}
+use Rattle.cq_reader.specs.QueryReading.{term_at, atom_at, more_answers_at, answers_at, more_atoms_at, more_atoms_or_blanks_at, question_at, query_at, query_and_blanks_at}
 
 pub reads_term : {text : List ℕ} → Reads term (Stops is_name_byte) text (term_at text)
 unfolding term_at
@@ -132,15 +133,18 @@ abbrev after_atom : Follow (Option Atom)
 after_atom None k = k ≡ []
 after_atom (Some a) k = Unit {0}
 
-none_last : (t k : List ℕ) (w : Option Atom) → t ≡ [] → w ≡ None → after_atom w k → next_is (λ c. true) (t ++ k) ≡ false
-none_last t k w e o f =
+none_last : (p : ℕ → Bool) (t k : List ℕ) (w : Option Atom) → t ≡ [] → w ≡ None → after_atom w k → next_is p (t ++ k) ≡ false
+none_last p t k w e o f =
     let k-is : k ≡ [] = subst (λ (x : Option Atom). after_atom x k) o f in
-    ap (λ (a : List ℕ). next_is (λ c. true) (a ++ k)) e ∙ ap (next_is (λ c. true)) k-is
+    ap (λ (a : List ℕ). next_is p (a ++ k)) e ∙ ap (next_is p) k-is
+
+first_none : {p : ℕ → Bool} → FirstIs (means None) after_atom p false
+first_none {p} = record { is = λ t w k s f. none_last p t k w s.0 s.1 f }
 
 reads_more_atoms : {text : List ℕ} → Reads more_atom after_atom text (more_atoms_at text)
 unfolding more_atoms_at
 reads_more_atoms =
-    reads_or (λ c. true) (first_blanks (λ c b. refl) (λ _. first_literal (λ c. true))) record { is = λ t w k s f. none_last t k w s.0 s.1 f }
+    reads_or (λ c. true) (first_blanks (λ c b. refl) (λ _. first_literal (λ c. true))) first_none
     (reads_stop _ reads_blanks (λ _. first_literal is_blank) (λ _ rest.
     reads_any _ reads_literal (λ _ rest.
     reads_stop _ reads_blanks (λ _. first_then (first_atom starting_not_blank refl)) (λ _ rest.
@@ -160,17 +164,55 @@ atom_items = record {
   item_follow = λ n v t vs k u f. tt;
 }
 
+-- ---- atoms with blanks behind them
+
+abbrev more_atom_or_blanks : Grammar (Option Atom)
+more_atom_or_blanks = blanks >> ((literal (codes ",") >> (blanks >> (atom >>= λ a. means (Some a)))) ∣ means None)
+
+abbrev only_blanks : Grammar (Unit {0})
+only_blanks = blanks >> means tt
+
+same_or_blanks : Same more_atom_or_blanks (item_or_end (listed atom) only_blanks)
+same_or_blanks = same_sym (same_trans (same_either regroup_listed (same_trans same_assoc (same_after (λ _. same_unit)))) (same_sym same_front))
+
+reads_more_or_blanks : {text : List ℕ} → Reads more_atom_or_blanks after_atom text (more_atoms_or_blanks_at text)
+unfolding more_atoms_or_blanks_at
+reads_more_or_blanks =
+    reads_stop _ reads_blanks (λ _. first_or (first_literal is_blank) first_none) (λ _ rest.
+    reads_or (λ c. c == 44) (first_literal (λ c. c == 44)) first_none
+    (reads_any _ reads_literal (λ _ rest.
+    reads_stop _ reads_blanks (λ _. first_then (first_atom starting_not_blank refl)) (λ _ rest.
+    reads_last (reads_atom {F = Anything}) (λ a k f. tt))))
+    reads_means)
+
+or_blanks_grows : (t : List ℕ) (a : Atom) → more_atom_or_blanks t (Some a) → 0 < length t
+or_blanks_grows t a s = elim s.in_second [
+  | inl l ↦
+      let some = grows_from (first_literal (λ c. true)) s.back (Some a) l in
+      omega (arith, some, ap (λ (x : List ℕ). length x) s.parts, length-append s.front s.back)
+  | inr r ↦ absurd (cc (r.1))
+]
+
+or_blanks_items : AreItems (λ n. more_atom_or_blanks) after_atom (λ k. k ≡ []) (λ n. more_atoms_or_blanks_at)
+or_blanks_items = record {
+  each = λ n text. reads_more_or_blanks;
+  grows = λ n t v s. or_blanks_grows t v s;
+  ends = λ n. record { text = []; value = []; is = record { front = []; back = []; met = []; parts = refl; in_first = (tt, refl); in_second = inr (refl, refl) } };
+  end_follow = λ k f. f;
+  item_follow = λ n v t vs k u f. tt;
+}
+
 -- ---- a query
 
-abbrev body' : List (List ℕ) → Grammar Question
-body' vs = blanks >> (literal (codes ":-") >> (blanks >> (atom >>= λ a. until (λ n. more_atom) 0 >>= λ bs. means (record { answers = vs; atoms = a ∷ bs }))))
+abbrev body' : Grammar (Option Atom) → List (List ℕ) → Grammar Question
+body' more vs = blanks >> (literal (codes ":-") >> (blanks >> (atom >>= λ a. until (λ n. more) 0 >>= λ bs. means (record { answers = vs; atoms = a ∷ bs }))))
 
-abbrev query' : Grammar Question
-query' = literal (codes "q(") >> (blanks >> (answers' >>= body'))
+abbrev query' : Grammar (Option Atom) → Grammar Question
+query' more = literal (codes "q(") >> (blanks >> (answers' >>= body' more))
 
-reads_query' : {text : List ℕ} → Reads query' Nothing text (query_at text)
-unfolding query_at
-reads_query' =
+reads_query' : {more : Grammar (Option Atom)} {step : List ℕ → Outcome (Option Atom)} {text : List ℕ} → AreItems (λ n. more) after_atom (λ k. k ≡ []) (λ n. step) → Reads (query' more) Nothing text (question_at (λ n. step) text)
+unfolding question_at
+reads_query' items =
     reads_any _ reads_literal (λ _ rest.
     reads_stop _ reads_blanks (λ _. first_then (first_or (first_then (first_literal is_blank)) (first_literal is_blank))) (λ _ rest.
     reads_any _ reads_answers (λ vs rest.
@@ -178,15 +220,45 @@ reads_query' =
     reads_any _ reads_literal (λ _ rest.
     reads_stop _ reads_blanks (λ _. first_then (first_atom starting_not_blank refl)) (λ _ rest.
     reads_any _ reads_atom (λ a rest.
-    reads_last (reads_until 0 (length rest + 1) atom_items (omega arith)) (λ vs k f. f))))))))
+    reads_last (reads_until 0 (length rest + 1) items (omega arith)) (λ vs k f. f))))))))
 
-same_query : Same query' query
-same_query =
-    let atoms_out : (vs : List (List ℕ)) (a : Atom) → Same (until (λ n. more_atom) 0 >>= λ bs. means (record { answers = vs; atoms = a ∷ bs })) (many (listed atom) >>= λ bs. means (record { answers = vs; atoms = a ∷ bs })) =
-    λ vs a. same_left (same_trans (same_trans (same_until 0 (λ n. same_more_atom)) (same_many 0)) (same_trans (same_after (λ vs. same_unit)) same_means)) in
-    let body_out : (vs : List (List ℕ)) → Same (closing >> means vs >>= body') (blanks >> (literal (codes ")") >> (blanks >> (literal (codes ":-") >> (blanks >> (atom >>= λ a. many (listed atom) >>= λ bs. means (record { answers = vs; atoms = a ∷ bs }))))))) =
+-- a query, and its end behind it
+abbrev ended : Grammar (Unit {0}) → Grammar Question
+ended e = query >>= λ q. e >> means q
+
+abbrev body_ended : Grammar (Unit {0}) → List (List ℕ) → Grammar Question
+body_ended e vs = blanks >> (literal (codes ")") >> (blanks >> (literal (codes ":-") >> (blanks >> (atom >>= λ a. many (listed atom) >>= λ bs. e >> means (record { answers = vs; atoms = a ∷ bs }))))))
+
+abbrev query_ended : Grammar (Unit {0}) → Grammar Question
+query_ended e = literal (codes "q(") >> (blanks >> ((some_answers ∣ means []) >>= body_ended e))
+
+spread_end : {e : Grammar (Unit {0})} → Same (ended e) (query_ended e)
+spread_end =
+    same_trans same_assoc (same_after (λ _.
+    same_trans same_assoc (same_after (λ _.
+    same_trans same_assoc (same_after (λ vs.
+    same_trans same_assoc (same_after (λ _.
+    same_trans same_assoc (same_after (λ _.
+    same_trans same_assoc (same_after (λ _.
+    same_trans same_assoc (same_after (λ _.
+    same_trans same_assoc (same_after (λ _.
+    same_trans same_assoc (same_after (λ a.
+    same_trans same_assoc (same_after (λ bs. same_unit))))))))))))))))))))
+
+same_query : {more : Grammar (Option Atom)} {e : Grammar (Unit {0})} → Same more (item_or_end (listed atom) e) → Same (query' more) (query_ended e)
+same_query {more} {e} same =
+    let atoms_out : (vs : List (List ℕ)) (a : Atom) → Same (until (λ n. more) 0 >>= λ bs. means (record { answers = vs; atoms = a ∷ bs })) (many (listed atom) >>= λ bs. e >> means (record { answers = vs; atoms = a ∷ bs })) =
+    λ vs a. same_trans (same_left (same_trans (same_until 0 (λ n. same)) (same_many 0))) (same_trans same_assoc (same_after (λ bs. same_trans same_assoc (same_after (λ _. same_unit))))) in
+    let body_out : (vs : List (List ℕ)) → Same (closing >> means vs >>= body' more) (body_ended e vs) =
     λ vs. same_trans same_assoc (same_trans (same_after (λ _. same_unit)) (same_trans same_assoc (same_after (λ _. same_after (λ _. same_after (λ _. same_after (λ _. same_after (λ _. same_after (λ a. atoms_out vs a))))))))) in
     same_after (λ _. same_trans (same_sym same_assoc) (same_trans (same_left same_answers) (same_trans same_assoc (same_after (λ _. same_trans same_assoc (same_after (λ vs. body_out vs)))))))
 
 pub reads_query : {text : List ℕ} → Reads query Nothing text (query_at text)
-reads_query = reads_same same_query reads_query'
+reads_query =
+    reads_same (same_trans (same_query same_more_atom) (same_trans (same_sym spread_end) (same_trans (same_after (λ q. same_unit)) same_means)))
+    (reads_query' atom_items)
+
+pub reads_query_and_blanks : {text : List ℕ} → Reads query_and_blanks Nothing text (query_and_blanks_at text)
+reads_query_and_blanks =
+    reads_same (same_trans (same_query same_or_blanks) (same_trans (same_sym spread_end) (same_after (λ q. same_trans same_assoc (same_after (λ _. same_unit))))))
+    (reads_query' or_blanks_items)

@@ -72,8 +72,21 @@ more_atoms_at text = cond (next_is (λ c. true) text)
       Ok (Some v.0, v.1))
     (Ok (None, text))
 
-unfoldable pub query_at : List ℕ → Outcome Question
-query_at text = do
+-- behind an atom: another one, or the blanks at the end of the text
+unfoldable pub more_atoms_or_blanks_at : List ℕ → Outcome (Option Atom)
+more_atoms_or_blanks_at text = do
+  a ← blanks_at text
+  cond (next_is (λ c. c == 44) a.1)
+      (do
+        b ← expect_at (codes ",") a.1
+        c ← blanks_at b.1
+        v ← atom_at c.1
+        Ok (Some v.0, v.1))
+      (Ok (None, a.1))
+
+-- a query whose atoms go on in this way behind the first
+unfoldable pub question_at : (ℕ → List ℕ → Outcome (Option Atom)) → List ℕ → Outcome Question
+question_at another text = do
   a ← expect_at (codes "q(") text
   b ← blanks_at a.1
   answers ← answers_at b.1
@@ -81,5 +94,11 @@ query_at text = do
   d ← expect_at (codes ":-") c.1
   e ← blanks_at d.1
   first ← atom_at e.1
-  others ← until_at (λ n. more_atoms_at) (length first.1 + 1) 0 first.1
+  others ← until_at another (length first.1 + 1) 0 first.1
   Ok (record { answers = answers.0; atoms = first.0 ∷ others.0 }, others.1)
+
+abbrev pub query_at : List ℕ → Outcome Question
+query_at = question_at (λ n. more_atoms_at)
+
+abbrev pub query_and_blanks_at : List ℕ → Outcome Question
+query_and_blanks_at = question_at (λ n. more_atoms_or_blanks_at)

@@ -81,3 +81,10 @@ query = do
   first ← atom
   others ← many (listed atom)
   means (record { answers = answers; atoms = first ∷ others })
+
+-- a query, and any blanks behind it
+abbrev pub query_and_blanks : Grammar Question
+query_and_blanks = do
+  q ← query
+  blanks
+  means q

@@ -5,7 +5,7 @@ mod atoms;
 mod limits;
 mod query;
 
-pub use query::{QueryError, read_query};
+pub use query::{Draft, QueryError, fitting, read_draft, read_query};
 
 #[cfg(test)]
 mod tests;

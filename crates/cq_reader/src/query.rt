@@ -1,17 +1,18 @@
 //! The reader of queries.
 
 ghost use Rattle.std.specs.Prelude.{◌≡◌, ◌≤◌, IfOk, IfErr, length};
-ghost use Rattle.grammar.specs.Reading.{Gives, whole};
+ghost use Rattle.grammar.specs.Reading.{Gives};
 ghost use Rattle.dl_base.specs.Query.{HasBareVariables, IsQuery};
-ghost use Rattle.cq_reader.specs.QueryReading.{query_at};
+ghost use Rattle.cq_reader.specs.QueryReading.{question_at, query_and_blanks_at};
 ghost use Rattle.cq_reader.specs.QueryFault.{MeansQuery, IsRefused, IsUnfit};
 ghost use Rattle.cq_reader.specs.declared.query.QueryError.TheVariants.{NoMemory};
 
-use crate::atoms::{read_answers, read_atom, read_atoms_on};
+use crate::atoms::{AtomList, AtomListAndBlanks, read_answers, read_atom};
 use crate::limits::{distinct_terms, first_unbound};
-use dl_base::{Atoms, Name, Query, Vars};
-use grammar::{ReadError, expect, skip_blanks};
+use dl_base::{Atom, Atoms, Name, Query, Vars};
+use grammar::{ListTail, ReadError, expect, read_list, skip_blanks, whole};
 use std::alloc::{AllocError, Global};
+use std::marker::Model;
 use thiserror::Error;
 
 /// The most atoms, distinct terms and answer places of a query.
@@ -43,16 +44,28 @@ impl From<AllocError> for QueryError {
     }
 }
 
-/// What the text of a query says.
-#[derive(Drop)]
-struct Draft {
+/// What the text of a query says. It may be too large or unsafe.
+#[derive(Debug, Drop)]
+pub struct Draft {
     answers: Vars,
     atoms: Atoms,
 }
 
-#[tactic(auto, unfolding(crate::specs::QueryReading::query_at))]
-fn read_draft(alloc: Global, text: &[u8]) -> Result<(Draft, &[u8]), ReadError>
-    ensures { Gives (λ x. (record { answers = x.0.answers; atoms = x.0.atoms }, x.1.now)) result (query_at text.now) }
+impl Model for Draft {
+    ghost use Rattle.dl_base.specs.Query.{Question};
+
+    ghost Value = { Question };
+
+    ghost view = { λ draft. record { answers = draft.answers; atoms = draft.atoms } };
+}
+
+/// The query whose atoms are listed in this way, and the text behind it.
+#[tactic(auto, unfolding(crate::specs::QueryReading::question_at))]
+fn read_listed<L: ListTail<Item = Atom>>(
+    alloc: Global,
+    text: &[u8],
+) -> Result<(Draft, &[u8]), ReadError>
+    ensures { Gives (λ x. (x.0, x.1.now)) result (question_at L.another_at text.now) }
 {
     let rest = expect(b"q(", text)?;
     let (_, rest) = skip_blanks(rest);
@@ -61,26 +74,23 @@ fn read_draft(alloc: Global, text: &[u8]) -> Result<(Draft, &[u8]), ReadError>
     let rest = expect(b":-", rest)?;
     let (_, rest) = skip_blanks(rest);
     let (first, rest) = read_atom(alloc, rest)?;
-    let (atoms, rest) = read_atoms_on(alloc, first, rest)?;
+    let (atoms, rest) = read_list::<L>(alloc, first, rest)?;
     Ok((Draft { answers, atoms }, rest))
 }
 
-fn whole_draft(alloc: Global, text: &[u8]) -> Result<Draft, ReadError>
-    ensures { Gives (λ d. record { answers = d.answers; atoms = d.atoms }) result (whole (query_at text.now)) }
+/// The query at the front of a text, which it and any blanks behind it end.
+pub fn read_draft(alloc: Global, text: &[u8]) -> Result<(Draft, &[u8]), ReadError>
+    ensures { Gives (λ x. (x.0, x.1.now)) result (query_and_blanks_at text.now) }
 {
-    let (draft, rest) = read_draft(alloc, text)?;
-    if !rest.is_empty() {
-        return Err(ReadError::Fault(rest.len()));
-    }
-    Ok(draft)
+    read_listed::<AtomListAndBlanks>(alloc, text)
 }
 
 /// The query, where it is within the limits and each answer variable is in an atom.
-fn fitting(alloc: Global, draft: Draft) -> Result<Query, QueryError>
+pub fn fitting(alloc: Global, draft: Draft) -> Result<Query, QueryError>
     requires some { 1 ≤ length draft.atoms }
-    requires variables { HasBareVariables (record { answers = draft.answers; atoms = draft.atoms }) }
-    ensures found { IfOk result (λ q. (q ≡ record { answers = draft.answers; atoms = draft.atoms }) × IsQuery q) }
-    ensures refused { IfErr result (λ e. IsUnfit (record { answers = draft.answers; atoms = draft.atoms }) e) }
+    requires variables { HasBareVariables draft }
+    ensures found { IfOk result (λ q. (q ≡ draft) × IsQuery q) }
+    ensures refused { IfErr result (λ e. IsUnfit draft e) }
 {
     if draft.answers.items().len() > LIMIT || draft.atoms.items().len() > LIMIT {
         return Err(QueryError::TooLarge);
@@ -106,7 +116,7 @@ pub fn read_query(alloc: Global, text: &[u8]) -> Result<Query, QueryError>
     // Each error comes exactly where it says, in the order of `QueryError`.
     ensures refused { IfErr result (λ e. IsRefused text.now e) }
 {
-    match whole_draft(alloc, text) {
+    match whole(read_listed::<AtomList>(alloc, text)) {
         Ok(draft) => fitting(alloc, draft),
         Err(ReadError::Fault(left)) => Err(QueryError::Syntax((text.len() - left + 1) as u64)),
         Err(ReadError::Memory) => Err(QueryError::NoMemory),

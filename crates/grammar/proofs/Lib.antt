@@ -6,3 +6,4 @@ pub mod Given
 pub mod Blanks
 pub mod Lists
 pub mod Loops
+pub mod Digits

@@ -4,7 +4,7 @@ use Rattle.std.specs.Prelude.{IsTrue}
 use Rattle.std.specs.List.{AllByRecursion}
 use Rattle.std.proofs.lemmas.Bool.{eqb-true, eqb-false, cases_lt}
 use Rattle.std.proofs.lemmas.List.{length-append, length-take, drop_all}
-use Rattle.grammar.specs.Grammar.{literal, bytes_of, some_bytes_of, bytes_within}
+use Rattle.grammar.specs.Grammar.{literal, bytes_of_kind, some_bytes_of, bytes_within}
 use Rattle.grammar.specs.Reading.{Outcome, next_is, run_len, run_at, some_at, expect_at}
 use Rattle.grammar.proofs.Exact.{SameHead, next_is-alike, Follow, IsExact}
 
@@ -137,7 +137,7 @@ run_to_end p text =
       | inr le ↦ ap (next_is p) (drop_all (run_len p (length text) text) text le)
     ]
 
-pub exact_bytes_of : (p : ℕ → Bool) (text : List ℕ) → IsExact (bytes_of p) (Stops p) text (Ok (run_at p (length text) text))
+pub exact_bytes_of : (p : ℕ → Bool) (text : List ℕ) → IsExact (bytes_of_kind p) (Stops p) text (Ok (run_at p (length text) text))
 exact_bytes_of p text =
     let r = run_at-run p (length text) text in
     record {

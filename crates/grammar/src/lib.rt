@@ -7,9 +7,13 @@
 
 mod bytes;
 mod fault;
+mod numbers;
+mod reading;
 
 pub use bytes::{Kind, expect, next_is_byte, next_is_kind, run, skip_blanks, some_blanks, some_of};
 pub use fault::ReadError;
+pub use numbers::read_number;
+pub use reading::{ListTail, read_list, whole};
 
 #[cfg(test)]
 mod tests;

@@ -16,7 +16,7 @@ use Rattle.axiom_reader.proofs.MeaningRules.{has_members, is_statement}
 use Rattle.cq_reader.specs.QueryText.{query}
 use Rattle.cq_reader.specs.QueryReading.{query_at}
 use Rattle.cq_reader.proofs.QueryRules.{reads_query}
-use Rattle.script_reader.specs.RowReading.{row_at}
+use Rattle.script_reader.specs.RowReading.{row_text_at}
 use Rattle.script_reader.specs.DocLines.{AreBlank, BeginsUnblank, EndsUnblank, IsWithoutBlanksBehind, IsTrimmed, IsDocLine, row_text, line_text, Follows}
 use Rattle.script_reader.specs.declared.doc_line.DocLine.{DocLine}
 use Rattle.script_reader.specs.declared.doc_line.DocLine.TheVariants as line
@@ -151,7 +151,7 @@ module _ (text rest : List ℕ) where
   fact_here : Follows (codes "fact") text rest → Found line_text text
   fact_here follows =
       says_by row_text line.Fact (λ d. fact_says text rest d follows) (λ d. says_fact text rest d follows)
-      (decide_whole row_text rest (whole (row_at rest)) (exact_whole row_text rest (row_at rest) (reads_row {text = rest}).is))
+      (decide_whole row_text rest (whole (row_text_at rest)) (exact_whole row_text rest (row_text_at rest) (reads_row {text = rest}).is))
 
   ask_here : Follows (codes "ask") text rest → Found line_text text
   ask_here follows =

@@ -22,7 +22,7 @@ use Rattle.axiom_reader.proofs.FormRules.{first_axiom, reads_axiom}
 use Rattle.cq_reader.specs.QueryText.{query}
 use Rattle.cq_reader.specs.QueryReading.{query_at}
 use Rattle.cq_reader.proofs.QueryRules.{reads_query}
-use Rattle.script_reader.specs.RowReading.{row_at}
+use Rattle.script_reader.specs.RowReading.{row_text_at}
 use Rattle.script_reader.proofs.RowRules.{reads_row}
 use Rattle.script_reader.specs.DocLines.{row_text, BeginsUnblank, IsTrimmed, IsDocLine, line_text, comment, axiom_behind, fact_behind, ask_behind, Follows, IsFaultOf}
 use Rattle.script_reader.specs.declared.doc_line.DocLine.{DocLine}
@@ -187,7 +187,7 @@ tree_once : (text : List ℕ) (t u : AxiomTree) → axiom_text text t → axiom_
 tree_once text = value_once axiom_text text (whole (tree_at text)) (exact_whole axiom_text text (tree_at text) (reads_axiom {text = text}).is)
 
 row_once : (text : List ℕ) (r s : NamedRow) → row_text text r → row_text text s → r ≡ s
-row_once text = value_once row_text text (whole (row_at text)) (exact_whole row_text text (row_at text) (reads_row {text = text}).is)
+row_once text = value_once row_text text (whole (row_text_at text)) (exact_whole row_text text (row_text_at text) (reads_row {text = text}).is)
 
 query_once : (text : List ℕ) (q r : Question) → query text q → query text r → q ≡ r
 query_once text = value_once query text (whole (query_at text)) (exact_whole query text (query_at text) (reads_query {text = text}).is)
@@ -241,10 +241,10 @@ module _ {V : Type 0} (g : Grammar V) (f : V → DocLine) (text : List ℕ) wher
   pub none_made : ((v : V) → g text v → ⊥) → (d : DocLine) → (g >>= λ v. means (f v)) text d → ⊥
   none_made none d s = none s.met (subst (λ (t : List ℕ). g t s.met) (sym (s.parts ∙ ap (λ b. s.front ++ b) s.in_second.0 ∙ append-nil s.front)) s.in_first)
 
-pub no_row : (text : List ℕ) (left : ℕ) → whole (row_at text) ≡ Err left → (d : DocLine) → fact_behind text d → ⊥
+pub no_row : (text : List ℕ) (left : ℕ) → whole (row_text_at text) ≡ Err left → (d : DocLine) → fact_behind text d → ⊥
 no_row text left is = none_made row_text line.Fact text (λ r says. (fault left (reads_row {text = text}) is).fault.outside (r, says))
 
-pub some_row : (text : List ℕ) (r : NamedRow) → whole (row_at text) ≡ Ok r → fact_behind text (line.Fact r)
+pub some_row : (text : List ℕ) (r : NamedRow) → whole (row_text_at text) ≡ Ok r → fact_behind text (line.Fact r)
 some_row text r is = made_of row_text line.Fact text r (found r (reads_row {text = text}) is).is
 
 -- ---- a text by its keyword

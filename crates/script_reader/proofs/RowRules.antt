@@ -11,7 +11,7 @@ use Rattle.dl_base.proofs.NameRules.{first_name, reads_name, reads_whole_name}
 use Rattle.dl_base.specs.declared.row.NamedRow.{NamedRow}
 use Rattle.dl_base.specs.declared.row.NamedRow.TheVariants as row
 use Rattle.script_reader.specs.DocLines.{row_text}
-use Rattle.script_reader.specs.RowReading.{row_at, third_at}
+use Rattle.script_reader.specs.RowReading.{row_text_at, third_at}
 
 -- what may stand behind two names
 abbrev behind_two : List ℕ → List ℕ → Grammar NamedRow
@@ -33,8 +33,8 @@ reads_third first second = reads_same same_or
 first_behind : (first second : List ℕ) → FirstIs (behind_two first second) Nothing is_name_byte false
 first_behind first second = first_or first_nothing (first_then (first_some_blanks (blank_not is_name_byte refl refl)))
 
-pub reads_row : {text : List ℕ} → Reads row_text Nothing text (row_at text)
-unfolding row_at
+pub reads_row : {text : List ℕ} → Reads row_text Nothing text (row_text_at text)
+unfolding row_text_at
 reads_row = reads_same same_rows
     (reads_stop _ reads_name (λ first. first_then (first_some_blanks (blank_not is_name_byte refl refl))) (λ first rest.
     reads_stop _ reads_some_blanks (λ _. first_then (first_name starting_not_blank refl)) (λ _ rest.

@@ -2,7 +2,7 @@
 use Rattle.std.specs.Prelude.{◌≡◌, ℕ, ◌≤◌, List, [], ◌∷◌, ◌++◌, length, codes, true, false, IsTrue}
 use Rattle.std.specs.List.{AllByRecursion}
 use Rattle.grammar.specs.Bytes.{is_blank}
-use Rattle.grammar.specs.Grammar.{Grammar, ◌>>=◌, ◌>>◌, means, ◌∣◌, literal, bytes_of}
+use Rattle.grammar.specs.Grammar.{Grammar, ◌>>=◌, ◌>>◌, means, ◌∣◌, literal, bytes_of_kind}
 use Rattle.grammar.specs.Blanks.{some_blanks}
 use Rattle.dl_base.specs.Names.{name}
 use Rattle.dl_base.specs.Query.{Question, IsQuery}
@@ -47,15 +47,15 @@ pub record IsTrimmed (text core : List ℕ) : Type 0 where
 -- ---- what stands between
 
 -- two names are a concept and an individual, three are a role and two individuals
-abbrev pub concept_row : Grammar NamedRow
-concept_row = do
+abbrev pub concept_row_text : Grammar NamedRow
+concept_row_text = do
   concept ← name
   some_blanks
   individual ← name
   means (row.Concept concept individual)
 
-abbrev pub role_row : Grammar NamedRow
-role_row = do
+abbrev pub role_row_text : Grammar NamedRow
+role_row_text = do
   role ← name
   some_blanks
   from ← name
@@ -64,13 +64,13 @@ role_row = do
   means (row.Role role from to)
 
 abbrev pub row_text : Grammar NamedRow
-row_text = concept_row ∣ role_row
+row_text = concept_row_text ∣ role_row_text
 
 -- `#` and any bytes
 abbrev pub comment : Grammar DocLine
 comment = do
   literal (codes "#")
-  bytes_of (λ c. true)
+  bytes_of_kind (λ c. true)
   means line.Blank
 
 abbrev pub axiom_line : Grammar DocLine

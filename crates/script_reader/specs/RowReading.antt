@@ -14,8 +14,8 @@ third_at first second text = cond (next_is (λ c. true) text)
       Ok (row.Role first second third.0, third.1))
     (Ok (row.Concept first second, text))
 
-unfoldable pub row_at : List ℕ → Outcome NamedRow
-row_at text = do
+unfoldable pub row_text_at : List ℕ → Outcome NamedRow
+row_text_at text = do
   first ← name_at text
   a ← some_blanks_at first.1
   second ← name_at a.1

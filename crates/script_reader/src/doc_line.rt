@@ -1,14 +1,14 @@
 //! Reading one line of a document.
 ghost use Rattle.std.specs.Prelude.{◌≡◌, [], MatchOption, IfOk, IfErr, List, ℕ};
-ghost use Rattle.grammar.specs.Reading.{Gives, whole};
-ghost use Rattle.script_reader.specs.RowReading.{row_at, third_at};
+ghost use Rattle.grammar.specs.Reading.{Gives};
+ghost use Rattle.script_reader.specs.RowReading.{row_text_at, third_at};
 ghost use Rattle.script_reader.specs.DocLines.{Follows, IsDocLine, IsFaultOf, IsFit, IsLineFault, IsTextFault, IsTrimmed, IsWithoutBlanksBehind, ask_behind, axiom_behind, fact_behind, line_text};
 ghost use Rattle.script_reader.specs.declared.doc_line.CommandError.TheVariants.{NoMemory};
 
 use axiom_reader::{AxiomError, read_axiom};
 use cq_reader::{QueryError, read_query};
 use dl_base::{Axiom, Name, NamedRow, Query, read_name};
-use grammar::{Kind, ReadError, next_is_byte, next_is_kind, skip_blanks, some_blanks};
+use grammar::{Kind, ReadError, next_is_byte, next_is_kind, skip_blanks, some_blanks, whole};
 use std::alloc::{AllocError, Global};
 use thiserror::Error;
 
@@ -154,27 +154,17 @@ fn read_fact(alloc: Global, text: &[u8]) -> Result<DocLine, CommandError>
     ensures fit { IfOk result IsFit }
     ensures fault { IfErr result (IsFaultOf (fact_behind text.now)) }
 {
-    match whole_row(alloc, text) {
+    match whole(read_row(alloc, text)) {
         Ok(row) => Ok(DocLine::Fact(row)),
         Err(ReadError::Fault(_)) => Err(CommandError::Syntax),
         Err(ReadError::Memory) => Err(CommandError::NoMemory),
     }
 }
 
-fn whole_row(alloc: Global, text: &[u8]) -> Result<NamedRow, ReadError>
-    ensures { Gives (λ row. row) result (whole (row_at text.now)) }
-{
-    let (row, rest) = read_row(alloc, text)?;
-    if !rest.is_empty() {
-        return Err(ReadError::Fault(rest.len()));
-    }
-    Ok(row)
-}
-
 /// A row: a concept and an individual, or a role and two.
-#[tactic(auto, unfolding(crate::specs::RowReading::row_at))]
+#[tactic(auto, unfolding(crate::specs::RowReading::row_text_at))]
 fn read_row(alloc: Global, text: &[u8]) -> Result<(NamedRow, &[u8]), ReadError>
-    ensures { Gives (λ x. (x.0, x.1.now)) result (row_at text.now) }
+    ensures { Gives (λ x. (x.0, x.1.now)) result (row_text_at text.now) }
 {
     let (first, rest) = read_name(alloc, text)?;
     let (_, rest) = some_blanks(rest)?;
