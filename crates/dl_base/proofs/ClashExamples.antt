@@ -18,11 +18,12 @@ use Rattle.dl_base.specs.declared.row.NamedRow.{NamedRow}
 use Rattle.dl_base.specs.declared.row.NamedRow.TheVariants as row
 use Rattle.dl_base.proofs.RisingLemmas.{contains_cases}
 use Rattle.dl_base.proofs.Examples.{only_item}
+use Rattle.dl_base.proofs.RoleLemmas.{same_role}
 use Rattle.dl_base.proofs.SmallOntologies.{among, derived_among, violated_behind, none_violated}
 
 -- ---- the two individuals
 
-differ : (a b : List ℕ) → bytes_eq a a ≡ true → bytes_eq a b ≡ false → a ≡ b → ⊥
+pub differ : (a b : List ℕ) → bytes_eq a a ≡ true → bytes_eq a b ≡ false → a ≡ b → ⊥
 differ a b same other e = true≢false (sym same ∙ ap (bytes_eq a) e ∙ other)
 
 two_rows : (x : NamedRow) → Contains a_and_b x → (x ≡ row.Concept (codes "A") (codes "a")) ⊎ (x ≡ row.Concept (codes "B") (codes "b"))
@@ -85,17 +86,14 @@ held_at_a (basic.Exists r) h = absurd (no_role_row h.1.name r.inverse (codes "a"
 alone : (bs : List Basic) (c : Basic) → among bs c ≡ true → (b : Basic) → b ≡ c → among bs b ≡ true
 alone bs c there b e = ap (among bs) e ∙ there
 
-exists_same : (r s : Role) → basic.Exists r ≡ basic.Exists s → r ≡ s
-exists_same r s e = cc
-
 p_or_q : (r : Role) → DerivedAt clashing a_and_b (Named (codes "a")) (basic.Exists r) → (r ≡ direct_at 2) ⊎ (r ≡ direct_at 1)
 unfolding at_a
 p_or_q r d = by (derived_among clashing.inclusions (Held clashing a_and_b (codes "a")) at_a refl held_at_a (basic.Exists r) d)
   where
     later : Contains (basic.Exists (direct_at 2) ∷ basic.Exists (direct_at 1) ∷ []) (basic.Exists r) → (r ≡ direct_at 2) ⊎ (r ≡ direct_at 1)
     later c = elim (contains_cases (basic.Exists (direct_at 2)) (basic.Exists (direct_at 1) ∷ []) (basic.Exists r) c) [
-      | inl e ↦ inl (exists_same r (direct_at 2) e)
-      | inr d ↦ inr (exists_same r (direct_at 1) (only_item (basic.Exists (direct_at 1)) (basic.Exists r) d))
+      | inl e ↦ inl (same_role r (direct_at 2) e)
+      | inr d ↦ inr (same_role r (direct_at 1) (only_item (basic.Exists (direct_at 1)) (basic.Exists r) d))
     ]
 
     by : Contains (basic.Concept 0 ∷ basic.Exists (direct_at 2) ∷ basic.Exists (direct_at 1) ∷ []) (basic.Exists r) → (r ≡ direct_at 2) ⊎ (r ≡ direct_at 1)
@@ -110,13 +108,13 @@ behind_p_is r d = by (derived_among clashing.inclusions (λ b. b ≡ basic.Exist
   where
     later : Contains (basic.Exists (direct_at 0) ∷ basic.Exists (direct_at 2) ∷ []) (basic.Exists r) → (r ≡ direct_at 0) ⊎ (r ≡ direct_at 2)
     later c = elim (contains_cases (basic.Exists (direct_at 0)) (basic.Exists (direct_at 2) ∷ []) (basic.Exists r) c) [
-      | inl e ↦ inl (exists_same r (direct_at 0) e)
-      | inr d ↦ inr (exists_same r (direct_at 2) (only_item (basic.Exists (direct_at 2)) (basic.Exists r) d))
+      | inl e ↦ inl (same_role r (direct_at 0) e)
+      | inr d ↦ inr (same_role r (direct_at 2) (only_item (basic.Exists (direct_at 2)) (basic.Exists r) d))
     ]
 
     by : Contains (basic.Exists (inverted_at 2) ∷ basic.Exists (direct_at 0) ∷ basic.Exists (direct_at 2) ∷ []) (basic.Exists r) → (r ≡ inverted_at 2) ⊎ ((r ≡ direct_at 0) ⊎ (r ≡ direct_at 2))
     by c = elim (contains_cases (basic.Exists (inverted_at 2)) (basic.Exists (direct_at 0) ∷ basic.Exists (direct_at 2) ∷ []) (basic.Exists r) c) [
-      | inl e ↦ inl (exists_same r (inverted_at 2) e)
+      | inl e ↦ inl (same_role r (inverted_at 2) e)
       | inr d ↦ inr (later d)
     ]
 

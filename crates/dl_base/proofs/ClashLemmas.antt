@@ -1,5 +1,5 @@
 -- The first clash of a base is one, and so is what the base replies.
-use Rattle.std.proofs.Common.{◌≡◌, ◌≢◌, ℕ, ◌<◌, List, [], ◌∷◌, ◌++◌, length, get_or, Contains, Option, Some, None, refl, sym, ◌∙◌, ap, subst, arith}
+use Rattle.std.proofs.Common.{◌≡◌, ◌≢◌, ℕ, ◌<◌, List, [], ◌∷◌, ◌++◌, length, get_or, Option, Some, None, refl, sym, ◌∙◌, ap, subst, arith}
 use Rattle.std.specs.Cmp.{IsTotalOrder}
 use Rattle.std.specs.Cmp.Lexicographic.{slice_cmp}
 use Rattle.std.specs.List.{AllByRecursion}
@@ -7,9 +7,8 @@ use Rattle.std.specs.declared.cmp.Ordering.{Ordering}
 use Rattle.std.specs.declared.cmp.Ordering.TheVariants.{Less, Equal, Greater}
 use Rattle.std.specs.Ordering.{ordering_then, ordering_reverse, nat_cmp, on, then_cmp}
 use Rattle.std.proofs.lemmas.Cmp.{nat_cmp_total, nat_list_cmp_total, lists_total, on_total, then_total}
-use Rattle.std.proofs.lemmas.List.Elements.{All-contains}
 use Rattle.std.proofs.lemmas.Option.{slice_get_within, same_Some}
-use Rattle.dl_base.specs.Ontology.{Terminology, IsTerminology, IsPlaced, IsPlacedHead, IsWithin}
+use Rattle.dl_base.specs.Ontology.{Terminology, IsTerminology, IsPlaced}
 use Rattle.dl_base.specs.Query.{Question}
 use Rattle.dl_base.specs.Rows.{name_cmp}
 use Rattle.dl_base.specs.Unfolding.{Element, Named, Next, Exists, Start}
@@ -19,10 +18,8 @@ use Rattle.dl_base.specs.Replies.{Replied, Answers, Inconsistent, IsReply}
 use Rattle.dl_base.specs.declared.concept.Role.{Role}
 use Rattle.dl_base.specs.declared.concept.Basic.{Basic}
 use Rattle.dl_base.specs.declared.concept.Basic.TheVariants as basic
-use Rattle.dl_base.specs.declared.concept.Head.TheVariants as head
-use Rattle.dl_base.specs.declared.concept.Inclusion.{Inclusion}
 use Rattle.dl_base.specs.declared.row.NamedRow.{NamedRow}
-use Rattle.dl_base.proofs.DerivationLemmas.{least}
+use Rattle.dl_base.proofs.OntologyLemmas.{derived_placed}
 use Rattle.dl_base.proofs.ElemLemmas.{bit, bit_cmp, inverse_same}
 use Rattle.dl_base.proofs.RisingLemmas.{nat_same, slice_same, same_rising}
 use Rattle.dl_base.proofs.RowLemmas.{total_as, name_same, then_first, then_second}
@@ -36,7 +33,7 @@ answers_once o rows q keys others a b =
 
 -- ---- the order of clashes
 
-role_total : (o : Terminology) → IsTotalOrder (role_cmp o)
+pub role_total : (o : Terminology) → IsTotalOrder (role_cmp o)
 role_total o = total_as (then_cmp (on (name_of o) name_cmp) (on direction nat_cmp)) (role_cmp o)
     (λ r s. ap (ordering_then (name_cmp (name_of o r) (name_of o s))) (bit_cmp r.inverse s.inverse))
     (then_total (on_total (name_of o) nat_list_cmp_total) (on_total direction nat_cmp_total))
@@ -50,7 +47,7 @@ place_total o = then_total (on_total (λ (x : Place). individual_of x.element) n
     (then_total (on_total (λ (x : Place). path_of x.element) (lists_total (role_total o))) (on_total (λ (x : Place). x.inclusion) nat_cmp_total)))
 
 -- neither comes behind the other
-tied : {X : Type 0} (cmp : X → X → Ordering) → IsTotalOrder cmp → (x y : X) → cmp x y ≢ Greater → cmp y x ≢ Greater → cmp x y ≡ Equal
+pub tied : {X : Type 0} (cmp : X → X → Ordering) → IsTotalOrder cmp → (x y : X) → cmp x y ≢ Greater → cmp y x ≢ Greater → cmp x y ≡ Equal
 tied cmp total x y a b = by (cmp x y) refl
   where
     by : (r : Ordering) → cmp x y ≡ r → cmp x y ≡ Equal
@@ -61,17 +58,11 @@ tied cmp total x y a b = by (cmp x y) refl
 -- ---- the roles of existing elements have names
 
 module _ (o : Terminology) (rows : List NamedRow) (t : IsTerminology o) where
-  head_placed : (i : Inclusion) (b : Basic) → Contains o.inclusions i → i.head ≡ head.Basic b → IsPlaced (length o.concepts) (length o.roles) b
-  head_placed i b there is =
-      let within : IsWithin (length o.concepts) (length o.roles) i = All-contains (IsWithin (length o.concepts) (length o.roles)) o.inclusions i t.within there in
-      subst (IsPlacedHead (length o.concepts) (length o.roles)) is within.head
-
   start_placed : (e : Element) → Exists o rows e → (b : Basic) → Start o rows e b → IsPlaced (length o.concepts) (length o.roles) b
   start_placed (Named a) exists (basic.Concept c) h = slice_get_within o.concepts c h.name h.named
   start_placed (Named a) exists (basic.Exists r) h = slice_get_within o.roles r.name h.1.name h.1.named
   start_placed (Next e r) exists b h =
-      let role : r.name < length o.roles =
-      least o.inclusions (Start o rows e) (IsPlaced (length o.concepts) (length o.roles)) (λ i b there is body. head_placed i b there is) (start_placed e exists.0) exists.1 in
+      let role : r.name < length o.roles = derived_placed o t (Start o rows e) (start_placed e exists.0) (basic.Exists r) exists.1 in
       subst (IsPlaced (length o.concepts) (length o.roles)) (sym h) role
 
   abbrev HasName : Role → Type 0
@@ -84,9 +75,10 @@ module _ (o : Terminology) (rows : List NamedRow) (t : IsTerminology o) where
   path_named : (e : Element) → Exists o rows e → AllByRecursion HasName (path_of e)
   path_named (Named a) exists = tt
   path_named (Next e r) exists = last_too (path_of e) r (path_named e exists.0)
-      (least o.inclusions (Start o rows e) (IsPlaced (length o.concepts) (length o.roles)) (λ i b there is body. head_placed i b there is) (start_placed e exists.0) exists.1)
+      (derived_placed o t (Start o rows e) (start_placed e exists.0) (basic.Exists r) exists.1)
 
-  role_same : (r s : Role) → HasName r → HasName s → role_cmp o r s ≡ Equal → r ≡ s
+  -- two roles of an ontology that compare as equal are one
+  pub role_same : (r s : Role) → HasName r → HasName s → role_cmp o r s ≡ Equal → r ≡ s
   role_same r s in_r in_s e =
       let names : get_or o.roles r.name [] ≡ get_or o.roles s.name [] = name_same _ _ (then_first _ _ e) in
       let direction : r.inverse ≡ s.inverse = inverse_same r.inverse s.inverse (then_second (name_cmp (name_of o r) (name_of o s)) _ e) in

@@ -31,10 +31,6 @@ pub cut : (inclusions : List Inclusion) (held more : Basic → Type 0) → ((b :
 cut inclusions held more from d =
     least inclusions more (Derives inclusions held) (λ i b there is body. node i there is (derives-all inclusions held i.body body)) from d
 
--- a member is derived
-pub derived-held : (inclusions : List Inclusion) (held : Basic → Type 0) (b : Basic) → held b → Derives inclusions held b
-derived-held inclusions held b h = leaf h
-
 -- from more, more is derived
 pub monotone : (inclusions : List Inclusion) (held more : Basic → Type 0) → ((b : Basic) → held b → more b) → {b : Basic} → Derives inclusions held b → Derives inclusions more b
 monotone inclusions held more from d = cut inclusions more held (λ b h. leaf (from b h)) d

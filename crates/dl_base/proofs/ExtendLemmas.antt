@@ -7,6 +7,7 @@ use Rattle.std.proofs.lemmas.Grind.{take_at_read, fold-append}
 use Rattle.std.proofs.lemmas.List.Elements.{All-weaker, All-append, All-nil, All-cons, All-head, All-tail, Contains-push, Contains-append_left}
 use Rattle.std.proofs.lemmas.Option.{slice_get_within}
 use Rattle.dl_base.specs.Ontology.{Terminology, IsTerminology, IsPlaced, IsPlacedHead, IsWithin}
+use Rattle.dl_base.proofs.OntologyLemmas.{all_wider}
 use Rattle.dl_base.proofs.PlaceLemmas.{zip_push, zip_length}
 use Rattle.indexmap.proofs.CallerLemmas.{Contains-list_any}
 use Rattle.dl_base.specs.Book.{Interns}
@@ -26,10 +27,11 @@ use Rattle.dl_base.specs.declared.axiom.NamedHead.TheVariants as named_head
 use Rattle.dl_base.specs.declared.concept.Inclusion.{Inclusion}
 use Rattle.dl_base.specs.declared.axiom.NamedInclusion.{NamedInclusion}
 
-any_contains : (names : List (List ℕ)) (name : List ℕ) → Contains names name → list_any (bytes_eq name) names ≡ true
-any_contains [] name c = absurd (omega arith)
-any_contains (x ∷ xs) name (zero, below, at) = rw ((bytes_eq-Decides name x).1 (sym at)) refl
-any_contains (x ∷ xs) name (suc k, below, at) = by (bytes_eq name x) (any_contains xs name (k, omega arith, at))
+-- a name of a list is found in it
+pub contains_any : (names : List (List ℕ)) (name : List ℕ) → Contains names name → list_any (bytes_eq name) names ≡ true
+contains_any [] name c = absurd (omega arith)
+contains_any (x ∷ xs) name (zero, below, at) = rw ((bytes_eq-Decides name x).1 (sym at)) refl
+contains_any (x ∷ xs) name (suc k, below, at) = by (bytes_eq name x) (contains_any xs name (k, omega arith, at))
   where
     by : (b : Bool) → list_any (bytes_eq name) xs ≡ true → (b || list_any (bytes_eq name) xs) ≡ true
     by true h = refl
@@ -41,7 +43,7 @@ interned_is old new name id i = by (list_any (bytes_eq name) old) refl
   where
     by : (b : Bool) → list_any (bytes_eq name) old ≡ b → new ≡ with_name old name
     by true e = rw e (i.known (Contains-list_any bytes_eq (λ x y h. (bytes_eq-Decides x y).0 h) old name e))
-    by false e = rw e (i.added (λ c. true≢false (sym (any_contains old name c) ∙ e)))
+    by false e = rw e (i.added (λ c. true≢false (sym (contains_any old name c) ∙ e)))
 
 pub names_more : (old names : List (List ℕ)) (k : ℕ) (d : List ℕ) → k < length names
     → with_names old (take (k + 1) names) ≡ with_name (with_names old (take k names)) (get_or names k d)
@@ -137,23 +139,6 @@ zip_all R P Q gives [] (b ∷ ys) ps all = absurd all
 zip_all R P Q gives (a ∷ xs) [] ps all = absurd all
 zip_all R P Q gives (a ∷ xs) (b ∷ ys) ps all =
     All-cons Q b ys (gives a b (All-head P a xs ps) all.0) (zip_all R P Q gives xs ys (All-tail P a xs ps) all.1)
-
-basic_wider : (c r c' r' : ℕ) (b : Basic) → c ≤ c' → r ≤ r' → IsPlaced c r b → IsPlaced c' r' b
-basic_wider c r c' r' (basic.Concept x) hc hr h = omega arith
-basic_wider c r c' r' (basic.Exists x) hc hr h = omega arith
-
-head_wider : (c r c' r' : ℕ) (h : Head) → c ≤ c' → r ≤ r' → IsPlacedHead c r h → IsPlacedHead c' r' h
-head_wider c r c' r' (head.Basic b) hc hr p = basic_wider c r c' r' b hc hr p
-head_wider c r c' r' head.Nothing hc hr p = tt
-
--- what is within is within more
-pub all_wider : (c r c' r' : ℕ) (is : List Inclusion) → c ≤ c' → r ≤ r' → All (IsWithin c r) is → All (IsWithin c' r') is
-all_wider c r c' r' is hc hr all = All-weaker (IsWithin c r) (IsWithin c' r') (λ i w. record {
-  least = w.least;
-  most = w.most;
-  body = All-weaker (IsPlaced c r) (IsPlaced c' r') (λ b p. basic_wider c r c' r' b hc hr p) i.body w.body;
-  head = head_wider c r c' r' i.head hc hr w.head;
-}) is all
 
 numbered_placed : (cs rs : List (List ℕ)) (n : NamedBasic) (b : Basic) → Numbers cs rs n b → IsPlaced (length cs) (length rs) b
 numbered_placed cs rs (named.Concept n) (basic.Concept c) h = slice_get_within cs c n h

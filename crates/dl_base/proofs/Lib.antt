@@ -14,3 +14,15 @@ pub mod SetLemmas
 pub mod SmallOntologies
 pub mod ClashLemmas
 pub mod ClashExamples
+pub mod OntologyLemmas
+pub mod RoleLemmas
+pub mod RowDecisions
+pub mod NumberLemmas
+pub mod ShortLemmas
+pub mod EdgeLemmas
+pub mod CollapseLemmas
+pub mod FoldLemmas
+pub mod PathLemmas
+pub mod ModelLemmas
+pub mod ShortExamples
+pub mod WitnessExamples

@@ -67,7 +67,8 @@ word_each (c ∷ cs) b = (naming_from_starting c b.0, b.1)
 pub bare_of : (w : List ℕ) → IsWord w → is_reserved w ≡ false → IsBare w
 bare_of w word free = (word, λ r. let taken : is_reserved w ≡ true = reserved_test w r in absurd (cc))
 
-each_of : (p : ℕ → Bool) (xs : List ℕ) → list_all p xs ≡ true → Every p xs
+-- what passes a test byte by byte
+pub each_of : (p : ℕ → Bool) (xs : List ℕ) → list_all p xs ≡ true → Every p xs
 each_of p [] e = tt
 each_of p (c ∷ cs) e =
     let both = and_parts (p c) (list_all p cs) e in

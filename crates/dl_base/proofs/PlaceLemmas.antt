@@ -33,6 +33,18 @@ pub last_place : {X : Type 0} (xs : List X) (x : X) → slice_get (xs ++ x ∷ [
 last_place [] x = refl
 last_place (y ∷ xs) x = last_place xs x
 
+-- what stands at a place of a list with one more item at its end
+pub got_pushed : {X : Type 0} (xs : List X) (x y : X) (k : ℕ) → slice_get (xs ++ x ∷ []) k ≡ Some y → (slice_get xs k ≡ Some y) ⊎ ((k ≡ length xs) × (y ≡ x))
+got_pushed [] x y zero at = inr (refl, let e : x ≡ y = cc in sym e)
+got_pushed [] x y (suc k) at = absurd cc
+got_pushed (z ∷ xs) x y zero at = inl at
+got_pushed (z ∷ xs) x y (suc k) at = elim (got_pushed xs x y k at) [ inl h ↦ inl h | inr h ↦ inr (ap suc h.0, h.1) ]
+
+-- at each place inside of a list something stands
+pub something_at : {X : Type 0} (xs : List X) (k : ℕ) → k < length xs → (x : X) × (slice_get xs k ≡ Some x)
+something_at [] k below = absurd (omega arith)
+something_at (x ∷ xs) k below = (get_or (x ∷ xs) k x, slice_get-get_or (x ∷ xs) k x below)
+
 -- an item of a distinct list stands at one place
 pub one_place : {X : Type 0} (xs : List X) (i j : ℕ) (x : X) → AllPairs (λ y z. y ≢ z) xs → slice_get xs i ≡ Some x → slice_get xs j ≡ Some x → i ≡ j
 one_place xs i j x distinct e f =

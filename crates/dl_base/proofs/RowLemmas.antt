@@ -1,5 +1,5 @@
 -- Laws of rows: their order, and the strictly rising lists of what is asserted.
-use Rattle.std.proofs.Common.{◌≡◌, ℕ, suc, ◌⊎◌, inl, inr, List, [], ◌∷◌, ◌++◌, Contains, refl, sym, ◌∙◌, ap, arith}
+use Rattle.std.proofs.Common.{◌≡◌, ℕ, suc, ◌⊎◌, inl, inr, Bool, true, false, not, List, [], ◌∷◌, ◌++◌, Contains, refl, sym, ◌∙◌, ap, subst, arith}
 use Rattle.std.specs.Cmp.{IsTotalOrder}
 use Rattle.std.specs.Cmp.Lexicographic.{slice_cmp}
 use Rattle.std.specs.List.Sorted.{IsStrictlySortedBy}
@@ -7,9 +7,12 @@ use Rattle.std.specs.declared.cmp.Ordering.{Ordering}
 use Rattle.std.specs.declared.cmp.Ordering.TheVariants.{Less, Equal, Greater}
 use Rattle.std.specs.Ordering.{ordering_then, nat_cmp, on, then_cmp}
 use Rattle.std.proofs.lemmas.Cmp.{nat_cmp_total, nat_list_cmp_total, lists_total, on_total, then_total}
-use Rattle.dl_base.specs.Rows.{name_cmp, row_cmp, numbered_row_cmp, AreRowsOf, IsIndividual}
+use Rattle.dl_base.specs.Derivation.{inverse}
+use Rattle.dl_base.specs.Ontology.{Terminology}
+use Rattle.dl_base.specs.Rows.{name_cmp, row_cmp, numbered_row_cmp, row_of, AreRowsOf, HasRow, IsIndividual}
 use Rattle.dl_base.specs.contracts.row.RowOrd.TheImpl.{cmp-value as key_order}
 use Rattle.dl_base.specs.contracts.row.RowOrd.TheImpl.Laws.{total-law}
+use Rattle.dl_base.specs.declared.concept.Role.{Role}
 use Rattle.dl_base.specs.declared.row.Row.{Row}
 use Rattle.dl_base.specs.declared.row.Row.TheVariants as numbered
 use Rattle.dl_base.specs.declared.row.NamedRow.{NamedRow}
@@ -97,6 +100,24 @@ none_rising cmp = tt
 pub individual_through : (few many : List NamedRow) → ((r : NamedRow) → Contains few r → Contains many r) → (a : List ℕ) → IsIndividual few a → IsIndividual many a
 individual_through few many into a (r, there, names) = (r, into r there, names)
 
+-- ---- the ends of a row
+
+names_both : (name : List ℕ) (turned : Bool) (a b : List ℕ) (rows : List NamedRow) → Contains rows (row_of name turned a b) → IsIndividual rows a × IsIndividual rows b
+names_both name true a b rows c = ((row.Role name b a, c, inr refl), (row.Role name b a, c, inl refl))
+names_both name false a b rows c = ((row.Role name a b, c, inl refl), (row.Role name a b, c, inr refl))
+
+-- both ends of a row are individuals
+pub ends_of_row : (o : Terminology) (rows : List NamedRow) (r : Role) (a b : List ℕ) → HasRow o rows r a b → IsIndividual rows a × IsIndividual rows b
+ends_of_row o rows r a b h = names_both h.name r.inverse a b rows h.there
+
+turned_back : (name : List ℕ) (turned : Bool) (a b : List ℕ) → row_of name turned a b ≡ row_of name (not turned) b a
+turned_back name true a b = refl
+turned_back name false a b = refl
+
+-- a row is read both ways
+pub back_row : (o : Terminology) (rows : List NamedRow) (r : Role) (a b : List ℕ) → HasRow o rows r a b → HasRow o rows (inverse r) b a
+back_row o rows r a b h = record { name = h.name; named = h.named; there = subst (Contains rows) (turned_back h.name r.inverse a b) h.there }
+
 -- ---- rows by numbers
 
 -- sets keep rows in the order of rows by numbers
@@ -123,6 +144,3 @@ numbered_same (numbered.Role p a b) (numbered.Role q x y) e =
     let g = nat_same a x (then_first _ _ rest) in
     let h = nat_same b y (then_second (nat_cmp a x) _ rest) in
     λ j. numbered.Role (f j) (g j) (h j)
-
-pub keys_same : (x y : Row) → key_order.it x y ≡ Equal → x ≡ y
-keys_same x y e = numbered_same x y (sym (keys_by_numbers x y) ∙ e)

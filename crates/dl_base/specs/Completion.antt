@@ -1,7 +1,7 @@
 -- Completed tables: the rows of a base with what is derived, and one shared witness for each role that needs one.
 use Rattle.std.specs.Prelude.{◌≡◌, ◌≢◌, ◌↔◌, ◌⊎◌, ℕ, true, false, List, slice_get, Some, Contains}
 use Rattle.dl_base.specs.Ontology.{Terminology}
-use Rattle.dl_base.specs.Derivation.{Derives, inverse}
+use Rattle.dl_base.specs.Derivation.{Derives, HeldBehind, inverse}
 use Rattle.dl_base.specs.Rows.{HasRow, IsIndividual}
 use Rattle.dl_base.specs.Unfolding.{Named, DerivedAt}
 use Rattle.dl_base.specs.Tables.{TableRow, ConceptRow, RoleRow}
@@ -14,7 +14,7 @@ use Rattle.dl_base.specs.declared.row.NamedRow.{NamedRow}
 
 -- what is derived at the end of every edge of the role, whatever it begins with
 abbrev pub DerivedBehind : Terminology → Role → Basic → Type 0
-DerivedBehind o r = Derives o.inclusions (λ b. b ≡ basic.Exists (inverse r))
+DerivedBehind o r = Derives o.inclusions (HeldBehind r)
 
 -- An individual needs the witness of a role where a successor is derived and no row gives one.
 pub record IndividualPoints (o : Terminology) (rows : List NamedRow) (a : List ℕ) (r : Role) : Type 0 where

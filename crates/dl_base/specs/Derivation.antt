@@ -2,12 +2,17 @@
 use Rattle.std.specs.Prelude.{◌≡◌, ℕ, ◌+◌, List, [], ◌∷◌, slice_get, Some, Contains, not}
 use Rattle.dl_base.specs.declared.concept.Role.{Role}
 use Rattle.dl_base.specs.declared.concept.Basic.{Basic}
+use Rattle.dl_base.specs.declared.concept.Basic.TheVariants as basic
 use Rattle.dl_base.specs.declared.concept.Head.TheVariants as head
 use Rattle.dl_base.specs.declared.concept.Inclusion.{Inclusion}
 
 -- the inverse of a role; that of an inverse is the named role itself
 abbrev pub inverse : Role → Role
 inverse r = record { name = r.name; inverse = not r.inverse }
+
+-- what is held behind a role, whatever it leads on from: having a successor by its inverse, and nothing else
+abbrev pub HeldBehind : Role → Basic → Type 0
+HeldBehind r b = b ≡ basic.Exists (inverse r)
 
 -- A derivation of b is a finite tree with root b. A leaf is a member of the set. An inner node is an inclusion whose
 -- head is the node's concept, with one tree for each member of its body.

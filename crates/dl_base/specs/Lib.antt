@@ -15,4 +15,9 @@ pub mod Replies
 pub mod Tables
 pub mod Completion
 pub mod Matches
+pub mod ShortUnfolding
+pub mod Lifting
+pub mod ShortAnswers
+pub mod Paths
+pub mod Structure
 pub mod Laws

@@ -1,7 +1,7 @@
 -- The unfolded structure: individuals, and behind each whatever roles are derived there, without a bound.
 use Rattle.std.specs.Prelude.{◌≡◌, ℕ, ◌⊎◌, false, List, slice_get, Some}
 use Rattle.dl_base.specs.Ontology.{Terminology}
-use Rattle.dl_base.specs.Derivation.{Derives, inverse}
+use Rattle.dl_base.specs.Derivation.{Derives, HeldBehind, inverse}
 use Rattle.dl_base.specs.Rows.{Held, HasRow, IsIndividual}
 use Rattle.dl_base.specs.declared.concept.Role.{Role}
 use Rattle.dl_base.specs.declared.concept.Basic.{Basic}
@@ -16,7 +16,7 @@ pub data Element : Type 0 where
 -- the basic concepts that an element begins with: what an individual holds, and behind a role its inverse alone
 abbrev pub Start : Terminology → List NamedRow → Element → Basic → Type 0
 Start o rows (Named a) b = Held o rows a b
-Start o rows (Next e r) b = b ≡ basic.Exists (inverse r)
+Start o rows (Next e r) b = HeldBehind r b
 
 -- what is derived at an element
 abbrev pub DerivedAt : Terminology → List NamedRow → Element → Basic → Type 0

@@ -1,5 +1,5 @@
 -- Laws of queues of places.
-use Rattle.std.proofs.Common.{◌≡◌, ◌≢◌, ℕ, zero, suc, ◌+◌, ◌-◌, ◌*◌, ◌/◌, ◌%◌, ◌<◌, ◌≤◌, ◌⊎◌, ◌↔◌, inl, inr, ◌==◌, Bool, true, false, List, [], ◌∷◌, ◌++◌, length, refl, sym, ◌∙◌, ap, subst, arith, if◌then◌else◌}
+use Rattle.std.proofs.Common.{◌≡◌, ◌≢◌, ℕ, zero, suc, ◌+◌, ◌-◌, ◌/◌, ◌%◌, ◌<◌, ◌≤◌, ◌⊎◌, ◌↔◌, inl, inr, ◌==◌, Bool, true, false, List, [], ◌∷◌, ◌++◌, length, refl, sym, ◌∙◌, ap, subst, arith, if◌then◌else◌}
 use Rattle.std.specs.List.{AllByRecursion, IsDistinct, list_any}
 use Rattle.std.proofs.Math.Dec.{eqb}
 use Rattle.std.proofs.lemmas.Bool.Decides.{nat_tests}
@@ -10,6 +10,7 @@ use Rattle.dl_base.specs.Ontology.{IsPlaced}
 use Rattle.dl_base.specs.Sets.{place_of, HasBit, HasBasic}
 use Rattle.dl_base.specs.declared.concept.Basic.{Basic}
 use Rattle.dl_base.specs.declared.concept.Basic.TheVariants as basic
+use Rattle.dl_base.proofs.SetLemmas.{place_of-lt}
 use Rattle.horn_closure.proofs.CountLemmas.{same_is, other_is, count_more, count_past}
 use Rattle.horn_closure.specs.Run.{count, bit, IsQueueOf, Marks}
 
@@ -30,14 +31,6 @@ at_place p below = by (p / 512) refl
     by : (h : ℕ) → p / 512 ≡ h → IsAt p
     by zero low = record { concept = basic.Concept p; placed = omega arith; place = refl }
     by (suc h) high = role ((p - 512) % 2) refl (omega arith)
-
-pub place-lt : (b : Basic) → IsPlaced 512 256 b → place_of b < 1024
-place-lt (basic.Concept c) h = omega arith
-place-lt (basic.Exists r) h = by r.inverse refl
-  where
-    by : (t : Bool) → r.inverse ≡ t → 512 + (2 * r.name + (if r.inverse then 1 else 0)) < 1024
-    by true e = rw e (omega arith)
-    by false e = rw e (omega arith)
 
 pub bit-lt : (words : List ℕ) (p : ℕ) → bit words p < 2
 bit-lt words p = bit_at-lt _ (p % 64)
@@ -132,7 +125,7 @@ pub marked_new : (b : Basic) (old queue new : List ℕ) → IsPlaced 512 256 b �
 marked_new b old queue new placed unset is adds = record {
   adds = adds;
   marks = record {
-    inside = All-append (λ p. p < 1024) queue _ is.inside (All-cons (λ p. p < 1024) (place_of b) [] (place-lt b placed) (All-nil (λ p. p < 1024)));
+    inside = All-append (λ p. p < 1024) queue _ is.inside (All-cons (λ p. p < 1024) (place_of b) [] (place_of-lt b placed) (All-nil (λ p. p < 1024)));
     each = λ p below.
         let now : bit new p ≡ bit old p + (if place_of b == p then 1 else 0) = bit_added old new b placed unset adds p below in
         let was : count p queue ≡ bit old p = is.each p below in

@@ -7,6 +7,7 @@ use Rattle.std.proofs.lemmas.List.{get_or_default, take-append-le}
 use Rattle.std.proofs.lemmas.List.Elements.{recursion_from_All, All-get_or}
 use Rattle.std.proofs.lemmas.Option.{get_or_from_slice_get, slice_get-get_or}
 use Rattle.dl_base.proofs.DerivationLemmas.{cut}
+use Rattle.dl_base.proofs.SetLemmas.{place_of-lt}
 use Rattle.dl_base.specs.Derivation.{Derives, DerivesAll, leaf, node, none, each}
 use Rattle.dl_base.specs.Ontology.{IsPlaced, IsWithin}
 use Rattle.dl_base.specs.Sets.{place_of, HasBasic}
@@ -16,19 +17,19 @@ use Rattle.dl_base.specs.declared.concept.Head.TheVariants as head
 use Rattle.dl_base.specs.declared.concept.Inclusion.{Inclusion}
 use Rattle.horn_closure.specs.declared.run.Found.{Found}
 use Rattle.horn_closure.proofs.CountLemmas.{same_is, other_is, count-append, count_more, count_last, count-take, waiting_more, all_visited}
-use Rattle.horn_closure.proofs.QueueLemmas.{bit-lt, once_each, place-lt}
+use Rattle.horn_closure.proofs.QueueLemmas.{bit-lt, once_each}
 use Rattle.horn_closure.specs.Run.{count, members_at, waiting, bit, AreUses, AreRules, IsQueueOf, IsSpent, IsFirstSpent, IsRun, Marks, MarksDerived}
 
 -- what is in the queue is in the set
 pub has_from_queued : (words queue : List ℕ) (b : Basic) → IsQueueOf words queue → IsPlaced 512 256 b → 0 < count (place_of b) queue → HasBasic words b
 has_from_queued words queue b is placed queued =
-    let same : count (place_of b) queue ≡ bit words (place_of b) = is.each (place_of b) (place-lt b placed) in
+    let same : count (place_of b) queue ≡ bit words (place_of b) = is.each (place_of b) (place_of-lt b placed) in
     let most : bit words (place_of b) < 2 = bit-lt words (place_of b) in
     record { placed = placed; there = omega arith }
 
 pub queued_from_has : (words queue : List ℕ) (b : Basic) → IsQueueOf words queue → HasBasic words b → 0 < count (place_of b) queue
 queued_from_has words queue b is has =
-    let same : count (place_of b) queue ≡ bit words (place_of b) = is.each (place_of b) (place-lt b has.placed) in
+    let same : count (place_of b) queue ≡ bit words (place_of b) = is.each (place_of b) (place_of-lt b has.placed) in
     let set : bit words (place_of b) ≡ 1 = has.there in omega arith
 
 -- where the place of each is visited each is derived

@@ -1,15 +1,11 @@
 -- Laws of the lists of uses.
 use Rattle.std.proofs.Common.{◌≡◌, ◌≢◌, ℕ, zero, suc, ◌+◌, ◌<◌, ◌≤◌, ◌⊎◌, inl, inr, List, [], ◌∷◌, ◌++◌, length, get_or, set, take, drop, slice_get, slice_index_or, Some, All, refl, sym, ◌∙◌, ap, arith, append_assoc, add-one, get_or-set_same, get_or-set_other}
 use Rattle.std.proofs.lemmas.Bool.{cases_eq}
-use Rattle.std.proofs.lemmas.List.Elements.{All-append, All-cons, All-nil, All-weaker}
+use Rattle.std.proofs.lemmas.List.Elements.{All-append, All-cons, All-nil}
 use Rattle.std.proofs.lemmas.Grind.{take_at_read}
 use Rattle.std.proofs.lemmas.Option.{slice_get_within}
-use Rattle.dl_base.specs.Ontology.{Terminology, IsTerminology, IsPlaced, IsPlacedHead, IsWithin}
 use Rattle.dl_base.specs.Sets.{place_of}
 use Rattle.dl_base.specs.declared.concept.Basic.{Basic}
-use Rattle.dl_base.specs.declared.concept.Basic.TheVariants as basic
-use Rattle.dl_base.specs.declared.concept.Head.{Head}
-use Rattle.dl_base.specs.declared.concept.Head.TheVariants as head
 use Rattle.dl_base.specs.declared.concept.Inclusion.{Inclusion}
 use Rattle.horn_closure.specs.Run.{members_at, copies, count, AreUses}
 use Rattle.horn_closure.proofs.CountLemmas.{same_is, other_is, count-append, members_at-append, copies-push, count-copies_same, count-copies_other}
@@ -91,23 +87,6 @@ below_all inclusions p i uses h s = record {
   inside = s.inside;
   counts = λ j inclusion at. let within : j < length inclusions = slice_get_within inclusions j inclusion at in s.below j inclusion (omega arith) at;
 }
-
-basic_wider : (c r : ℕ) (b : Basic) → c ≤ 512 → r ≤ 256 → IsPlaced c r b → IsPlaced 512 256 b
-basic_wider c r (basic.Concept x) hc hr h = omega arith
-basic_wider c r (basic.Exists x) hc hr h = omega arith
-
-head_wider : (c r : ℕ) (h : Head) → c ≤ 512 → r ≤ 256 → IsPlacedHead c r h → IsPlacedHead 512 256 h
-head_wider c r (head.Basic b) hc hr p = basic_wider c r b hc hr p
-head_wider c r head.Nothing hc hr p = tt
-
--- the inclusions of an ontology are within the greatest one's
-pub all_wider : (o : Terminology) → IsTerminology o → All (IsWithin 512 256) o.inclusions
-all_wider o t = All-weaker (IsWithin (length o.concepts) (length o.roles)) (IsWithin 512 256) (λ i w. record {
-  least = w.least;
-  most = w.most;
-  body = All-weaker (IsPlaced (length o.concepts) (length o.roles)) (IsPlaced 512 256) (λ b p. basic_wider _ _ b t.concepts t.roles p) i.body w.body;
-  head = head_wider _ _ i.head t.concepts t.roles w.head;
-}) o.inclusions t.within
 
 -- an empty list more at the end of empty lists
 pub still_empty : (xs : List (List ℕ)) (p : ℕ) → ((q : ℕ) → slice_index_or xs q [] ≡ []) → slice_index_or (xs ++ [] ∷ []) p [] ≡ []

@@ -1,23 +1,13 @@
 -- What a book keeps while its live roles are set.
-use Rattle.std.proofs.Common.{◌≡◌, ℕ, ◌+◌, ◌/◌, ◌%◌, ◌<◌, ◌≤◌, ◌⊎◌, inl, inr, true, false, List, length, get_or, min, All, slice_index, refl, sym, ◌∙◌, ap, arith}
-use Rattle.std.specs.Int.{bit_at}
-use Rattle.std.proofs.lemmas.Bool.{cases_eq, cases_lt}
+use Rattle.std.proofs.Common.{◌≡◌, ℕ, ◌+◌, ◌<◌, ◌≤◌, inl, inr, true, false, List, length, get_or, min, All, refl, sym, ◌∙◌, ap, arith}
+use Rattle.std.proofs.lemmas.Bool.{cases_lt}
 use Rattle.std.proofs.lemmas.List.{get_or_default, get_or_past}
-use Rattle.dl_base.specs.Sets.{HasRole, role_place}
+use Rattle.dl_base.specs.Sets.{HasRole}
 use Rattle.dl_base.specs.declared.concept.Role.{Role}
+use Rattle.dl_base.proofs.SetLemmas.{role_or_not}
 use Rattle.witness_book.specs.Rising.{AreSmall, Rises, generation_at, generation_in, never}
 use Rattle.witness_book.specs.Witnesses.{Witnesses, IsWitnessBook, SetsLive, generation_of}
 use Rattle.witness_book.specs.declared.generations.Generations.{Generations}
-
--- a set has a role or hasn't got it
-pub role_or_not : (words : List ℕ) (r : Role) → HasRole words r ⊎ (HasRole words r → ⊥)
-role_or_not words r = elim (cases_lt r.name 256) [
-  | inr past ↦ inr (λ has. let placed : r.name < 256 = has.placed in absurd (omega arith))
-  | inl placed ↦ elim (cases_eq (bit_at (slice_index words (role_place r / 64)) (role_place r % 64)) 1) [
-    | inl there ↦ inl (record { placed = placed; there = there })
-    | inr clear ↦ inr (λ has. clear has.there)
-  ]
-]
 
 -- each generation of a book whose live roles may be set once more can be raised
 pub all_small : (b : Witnesses) → IsWitnessBook b → b.calls < 4000000000 → All AreSmall b.generations

@@ -1,11 +1,12 @@
 use Rattle.std.proofs.Common.{sym, ◌∙◌, true≢false}
 use Rattle.dl_base.specs.Sets.{place_of}
-use Rattle.horn_closure.proofs.QueueLemmas.{room_for, unset_from, marked_new, marked_before, place-lt}
+use Rattle.dl_base.proofs.SetLemmas.{place_of-lt}
+use Rattle.horn_closure.proofs.QueueLemmas.{room_for, unset_from, marked_new, marked_before}
 use Rattle.horn_closure.proofs.run.mark.Goals as goal
 
 pub push-requires-clause-room : goal.push-requires-clause-room
 push-requires-clause-room c =
-    room_for _ _ (place_of c.args.b) c.requires.marks (place-lt c.args.b c.requires.placed)
+    room_for _ _ (place_of c.args.b) c.requires.marks (place_of-lt c.args.b c.requires.placed)
     (unset_from _ c.args.b c.requires.placed (λ has. true≢false (sym (c.has.ensures.1 has) ∙ c.if-not-has.true)))
 
 pub returns-then-not-has : goal.returns-then-not-has

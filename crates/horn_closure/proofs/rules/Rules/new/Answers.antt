@@ -1,5 +1,5 @@
 use Rattle.std.proofs.Common.{◌≡◌, ◌∙◌}
-use Rattle.horn_closure.proofs.UsesLemmas.{all_wider}
+use Rattle.dl_base.proofs.OntologyLemmas.{within_limits}
 use Rattle.horn_closure.proofs.rules.Rules.new.Goals as goal
 
 pub invariant_of-result : goal.invariant_of-result
@@ -12,7 +12,7 @@ invariant_of-result c =
       within = c.inclusions.ensures.within;
       rules = record {
         few = c.inclusions.ensures.within.inclusions;
-        within = all_wider _ c.inclusions.ensures.within;
+        within = within_limits _ c.inclusions.ensures.within;
         places = c.in_ok-uses.ensures.places;
         each = rw c.inclusions-2.ensures.list at c.in_ok-uses.ensures.each;
       };
