@@ -1,16 +1,11 @@
 -- The closures behind the first so many role names.
-use Rattle.std.proofs.Common.{◌≡◌, ℕ, zero, suc, ◌+◌, ◌⊎◌, inl, inr, Bool, List, [], ◌∷◌, ◌++◌, length, length-append, slice_get, Some, refl, sym, ◌∙◌, ap, subst, arith}
+use Rattle.std.proofs.Common.{◌≡◌, ℕ, ◌+◌, inl, inr, Bool, List, [], ◌∷◌, ◌++◌, length, length-append, sym, ◌∙◌, subst, arith}
+use Rattle.dl_base.specs.Derivation.{HeldBehind}
 use Rattle.dl_base.specs.declared.concept.Inclusion.{Inclusion}
 use Rattle.horn_closure.specs.Closure.{IsClosure}
-use Rattle.role_graph.specs.Behind.{AreClosures, HeldBehind, side}
+use Rattle.dl_base.proofs.PlaceLemmas.{got_pushed}
+use Rattle.role_graph.specs.Behind.{AreClosures, side}
 use Rattle.role_graph.specs.declared.closures.BothWays.{BothWays}
-
--- what stands at a place of a list with one more item at its end
-pub got_pushed : {X : Type 0} (xs : List X) (x y : X) (k : ℕ) → slice_get (xs ++ x ∷ []) k ≡ Some y → (slice_get xs k ≡ Some y) ⊎ ((k ≡ length xs) × (y ≡ x))
-got_pushed [] x y zero at = inr (refl, let e : x ≡ y = cc in sym e)
-got_pushed [] x y (suc k) at = absurd cc
-got_pushed (z ∷ xs) x y zero at = inl at
-got_pushed (z ∷ xs) x y (suc k) at = elim (got_pushed xs x y k at) [ inl h ↦ inl h | inr h ↦ inr (ap suc h.0, h.1) ]
 
 pub closures_more : (inclusions : List Inclusion) (name : ℕ) (closed more : List BothWays) (s : BothWays) → more ≡ closed ++ s ∷ [] → ((inverse : Bool) → IsClosure inclusions (HeldBehind (record { name = name; inverse = inverse })) (side s inverse))
     → AreClosures inclusions name closed → AreClosures inclusions (name + 1) more

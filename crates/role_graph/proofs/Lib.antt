@@ -2,4 +2,9 @@ pub mod ClosuresLemmas
 pub mod OutsideLemmas
 pub mod PointsLemmas
 pub mod ReachedLemmas
-pub mod SetLemmas
+pub mod OrderLemmas
+pub mod ClashLemmas
+pub mod LevelLemmas
+pub mod StepLemmas
+pub mod NextLemmas
+pub mod FirstLemmas

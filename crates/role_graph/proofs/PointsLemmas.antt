@@ -2,15 +2,15 @@
 use Rattle.std.proofs.Common.{◌≡◌, ℕ, ◌+◌, ◌<◌, ◌≤◌, ◌⊎◌, ◌↔◌, inl, inr, true, false, List, length, sym, ap, subst, arith}
 use Rattle.std.proofs.lemmas.Bool.{cases_eq, cases_lt}
 use Rattle.dl_base.specs.Completion.{RolePoints}
+use Rattle.dl_base.specs.Derivation.{HeldBehind}
 use Rattle.dl_base.specs.Ontology.{Terminology}
 use Rattle.dl_base.specs.Sets.{HasBasic, HasRole}
 use Rattle.dl_base.specs.declared.concept.Basic.TheVariants as basic
 use Rattle.dl_base.specs.declared.concept.Role.{Role}
 use Rattle.horn_closure.specs.Closure.{ClosedSet, IsClosure}
-use Rattle.role_graph.specs.Behind.{HeldBehind}
 use Rattle.role_graph.specs.Graph.{Graph, IsGraphOf, HasNode}
 use Rattle.role_graph.proofs.OutsideLemmas.{no_point_outside, point_inside}
-use Rattle.role_graph.proofs.SetLemmas.{direct_or_inverse}
+use Rattle.dl_base.proofs.RoleLemmas.{direct_or_inverse}
 
 -- a role that the graph hasn't got points to none
 pub no_point : (o : Terminology) (g : Graph) (s r : Role) → IsGraphOf o g → (HasNode g s → ⊥) → RolePoints o s r → ⊥

@@ -10,7 +10,7 @@ use Rattle.dl_base.specs.declared.row.NamedRow.{NamedRow}
 use Rattle.role_graph.specs.Graph.{Graph, IsGraphOf, HasNode}
 use Rattle.role_graph.specs.Reached.{ArePointedTo, IsReached, first, next}
 use Rattle.role_graph.proofs.PointsLemmas.{no_point, pointed_inside}
-use Rattle.role_graph.proofs.SetLemmas.{direct_or_inverse}
+use Rattle.dl_base.proofs.RoleLemmas.{direct_or_inverse}
 
 -- what is live and what is done, on the way
 pub record AreReached (o : Terminology) (from live done : List ℕ) : Type 0 where

@@ -1,16 +1,10 @@
 -- What is derived behind roles.
 use Rattle.std.specs.Prelude.{◌≡◌, ℕ, Bool, true, false, List, length, slice_get, Some}
-use Rattle.dl_base.specs.Derivation.{inverse}
-use Rattle.dl_base.specs.declared.concept.Basic.{Basic}
-use Rattle.dl_base.specs.declared.concept.Basic.TheVariants as basic
+use Rattle.dl_base.specs.Derivation.{HeldBehind}
 use Rattle.dl_base.specs.declared.concept.Inclusion.{Inclusion}
 use Rattle.dl_base.specs.declared.concept.Role.{Role}
 use Rattle.horn_closure.specs.Closure.{ClosedSet, IsClosure}
 use Rattle.role_graph.specs.declared.closures.BothWays.{BothWays}
-
--- what is held behind a role, whatever it leads on from: having a successor by its inverse, and nothing else
-abbrev pub HeldBehind : Role → Basic → Type 0
-HeldBehind r b = b ≡ basic.Exists (inverse r)
 
 -- what is derived behind the direct role or behind its inverse
 abbrev pub side : BothWays → Bool → ClosedSet

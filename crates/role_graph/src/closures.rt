@@ -1,8 +1,11 @@
 //! What is derived behind each role.
-ghost use Rattle.std.specs.Prelude.{◌≡◌, ◌<◌, ◌≤◌, ◌+◌, ◌*◌, false, IfOk, OnOk, Bool, length};
+ghost use Rattle.std.specs.Prelude.{◌≡◌, ◌<◌, ◌≤◌, ◌+◌, ◌*◌, ℕ, List, false, IfOk, OnOk, Bool, length};
 ghost use Rattle.dl_base.specs.Ontology.{IsTerminology};
+ghost use Rattle.dl_base.specs.Sets.{role_place};
+ghost use Rattle.dl_base.specs.declared.concept.Inclusion.{Inclusion};
 ghost use Rattle.horn_closure.specs.Closure.{IsClosure, IsScratchOf};
-ghost use Rattle.role_graph.specs.Behind.{AreClosures, HeldBehind, side};
+ghost use Rattle.dl_base.specs.Derivation.{HeldBehind};
+ghost use Rattle.role_graph.specs.Behind.{AreClosures, side};
 
 use dl_base::{Basic, BasicSet, Role};
 use horn_closure::{Closed, Rules, Scratch, Steps};
@@ -22,6 +25,34 @@ impl BothWays {
         ensures { result.now ≡ side self.now inverse }
     {
         if inverse { &self.inverse } else { &self.direct }
+    }
+}
+
+/// The closure of what is held behind the role, among those of its name.
+pub(crate) fn closed_behind_of(closed: &[BothWays], r: Role) -> &Closed
+    requires placed { r.name < length closed.now }
+    ensures { (inclusions : List Inclusion) (names : ℕ) → AreClosures inclusions names closed.now → IsClosure inclusions (HeldBehind r) result.now }
+{
+    closed[r.name as usize].of(r.inverse)
+}
+
+/// The place of a role among all.
+pub(crate) fn place_of(r: Role) -> usize
+    requires { r.name < 256 }
+    ensures { result ≡ role_place r }
+{
+    2 * r.name as usize + r.inverse as usize
+}
+
+/// The role at a place among all.
+pub fn role_at(place: usize) -> Role
+    requires { place < 512 }
+    ensures place { role_place result ≡ place }
+    ensures placed { 2 * result.name ≤ place }
+{
+    Role {
+        name: (place / 2) as u32,
+        inverse: place % 2 == 1,
     }
 }
 

@@ -1,42 +1,46 @@
 //! The graph of the roles of an ontology.
-ghost use Rattle.std.specs.Prelude.{◌≡◌, ◌↔◌, ◌≤◌, ◌+◌, ◌*◌, IfOk, OnOk, IsTrue, List, length};
+ghost use Rattle.std.specs.Prelude.{◌≡◌, ◌↔◌, ◌≤◌, ◌+◌, ◌*◌, IfOk, OnOk, IsTrue, List, MatchOption, None, Some, length};
 ghost use Rattle.dl_base.specs.Completion.{IsLive, RolePoints};
 ghost use Rattle.dl_base.specs.Ontology.{Terminology};
 ghost use Rattle.dl_base.specs.Sets.{HasRole};
 ghost use Rattle.dl_base.specs.declared.concept.Role.{Role as AnyRole};
 ghost use Rattle.dl_base.specs.declared.row.NamedRow.{NamedRow};
 ghost use Rattle.horn_closure.specs.Closure.{IsClosure, IsScratchOf};
-ghost use Rattle.role_graph.specs.Behind.{HeldBehind};
+ghost use Rattle.dl_base.specs.Derivation.{HeldBehind};
+ghost use Rattle.role_graph.specs.FirstClashes.{IsFirstFrom};
 ghost use Rattle.role_graph.specs.Graph.{HasNode, IsGraphOf};
 ghost use Rattle.role_graph.specs.Reached.{ArePointedTo, IsReached};
 
-use crate::closures::{BothWays, closures};
+use crate::clash::RoleClash;
+use crate::closures::{BothWays, closed_behind_of, closures, place_of};
+use crate::levels::first_clashes;
 use dl_base::{Basic, Role, RoleSet};
 use horn_closure::{Closed, Rules, Scratch, Steps};
 use std::alloc::{AllocError, Global};
 use std::marker::Model;
 use std::sync::ledger::Ledger;
 
-/// What is derived behind each role of an ontology. Contracts see it by the places of the role names.
+/// What is derived behind each role of an ontology, and the first clash from it. Contracts see it by the places of the role
+/// names, and of the roles.
 #[derive(Drop)]
 pub struct RoleGraph {
     closed: Vec<BothWays>,
+    clashes: Vec<Option<RoleClash>>,
 }
 
 impl Model for RoleGraph {
-    ghost use Rattle.std.specs.Prelude.{◌≤◌, length};
-    ghost use Rattle.role_graph.specs.Graph.{Graph};
+    ghost use Rattle.role_graph.specs.Graph.{Graph, IsPaired};
 
     ghost Value = { Graph };
 
-    ghost view = { λ g. record { closed = g.closed.items } };
+    ghost view = { λ g. record { closed = g.closed.items; clashes = g.clashes.items } };
 
-    ghost invariant = { λ g. length g.closed.items ≤ 256 };
+    ghost invariant = { λ g. IsPaired g.closed.items g.clashes.items };
 }
 
 impl RoleGraph {
     /// The graph of the ontology's roles. It takes two steps for each role name, also where it finds no memory at most so
-    /// many.
+    /// many. The first clashes are found level by level, those with the shortest lists first.
     pub fn new<L: Ledger>(
         alloc: Global,
         rules: &Rules,
@@ -50,7 +54,8 @@ impl RoleGraph {
         ensures most { steps.new ≤ steps.old + 2 * length rules.now.roles }
     {
         let closed = closures(alloc, rules, scratch, steps)?;
-        Ok(RoleGraph { closed })
+        let clashes = first_clashes(alloc, rules, closed.as_slice())?;
+        Ok(RoleGraph { closed, clashes })
     }
 
     /// Whether the role is one of the ontology. It takes no memory, nor do the calls below.
@@ -65,7 +70,7 @@ impl RoleGraph {
         requires { HasNode self.now r }
         ensures { (o : Terminology) → IsGraphOf o self.now → IsClosure o.inclusions (HeldBehind r) result.now }
     {
-        self.closed[r.name as usize].of(r.inverse)
+        closed_behind_of(self.closed.as_slice(), r)
     }
 
     /// Whether the witness of s points to that of r.
@@ -73,6 +78,17 @@ impl RoleGraph {
         ensures { (o : Terminology) → IsGraphOf o self.now → IsTrue result ↔ RolePoints o s r }
     {
         self.has_role(s) && self.closed_of(s).has(Basic::Exists(r)) && r != s.inverted()
+    }
+
+    /// The first clash among the lists of roles that begin with the role: the shortest list, then the least in role order, then
+    /// the least inclusion; `None` exactly where there is none. A list may go back along a role.
+    pub fn clash_from(&self, r: Role) -> Option<&RoleClash>
+        ensures { (o : Terminology) → IsGraphOf o self.now → MatchOption result (IsFirstFrom o r None) (λ c. IsFirstFrom o r (Some c.now)) }
+    {
+        if !self.has_role(r) {
+            return None;
+        }
+        self.clashes[place_of(r)].as_ref()
     }
 
     /// The roles to which a chain of points leads from one of these, and these themselves. From the roles to which

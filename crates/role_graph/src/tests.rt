@@ -1,7 +1,7 @@
 //! Points and live roles of small ontologies, by hand.
 ghost use Rattle.std.specs.Prelude.{◌≡◌, ◌<◌, ◌≤◌, false};
 
-use crate::RoleGraph;
+use crate::{RoleClash, RoleGraph};
 use axiom_reader::read_axiom;
 use dl_base::{Basic, Ontology, Role, RoleSet};
 use horn_closure::{Rules, Steps};
@@ -22,6 +22,18 @@ const AXIOMS: [&[u8]; 6] = [
     b"SubClassOf(Some(Inv(e)) Some(Inv(e)))",
 ];
 
+/// Roles in the order z, y, x, w, v by their places. Behind z both y and x lead to a clash, of which that of x comes first in
+/// role order; w leads to itself and on to z; and behind v the way back has a clash.
+const CLASHING: [&[u8]; 7] = [
+    b"SubClassOf(Some(Inv(z)) Some(y))",
+    b"SubClassOf(Some(Inv(z)) Some(x))",
+    b"SubClassOf(Some(Inv(y)) nothing)",
+    b"SubClassOf(Some(Inv(x)) nothing)",
+    b"SubClassOf(Some(Inv(w)) Some(w))",
+    b"SubClassOf(Some(w) Some(z))",
+    b"SubClassOf(Some(v) nothing)",
+];
+
 fn role(name: u32) -> Role
     ensures { result ≡ record { name = name; inverse = false } }
 {
@@ -38,9 +50,9 @@ fn extended(alloc: Global, o: Ontology, text: &[u8]) -> Result<Ontology, Fail> {
     }
 }
 
-fn small(alloc: Global) -> Result<Ontology, Fail> {
+fn small(alloc: Global, axioms: &[&[u8]]) -> Result<Ontology, Fail> {
     let mut o = Ontology::new(alloc)?;
-    for text in AXIOMS {
+    for text in axioms {
         o = extended(alloc, o, text)?;
     }
     Ok(o)
@@ -74,6 +86,23 @@ fn live_from(graph: &RoleGraph, r: Role) -> RoleSet
     let mut from = RoleSet::new();
     from.add(r);
     graph.live(&from)
+}
+
+fn is_clash(found: Option<&RoleClash>, inclusion: u32, path: &[Role]) -> bool {
+    match found {
+        Some(clash) => clash.inclusion == inclusion && clash.path.items() == path,
+        None => false,
+    }
+}
+
+fn assert_clashes(rt: &impl Abort, graph: &RoleGraph) {
+    let (z, y, x, w, v) = (role(0), role(1), role(2), role(3), role(4));
+    assert!(rt; is_clash(graph.clash_from(z), 4, &[z, x]));
+    assert!(rt; is_clash(graph.clash_from(y), 3, &[y]));
+    assert!(rt; is_clash(graph.clash_from(w), 4, &[w, z, x]));
+    assert!(rt; is_clash(graph.clash_from(z.inverted()), 4, &[z.inverted(), z, x]));
+    assert!(rt; is_clash(graph.clash_from(v), 7, &[v, v.inverted()]));
+    assert!(rt; graph.clash_from(role(9)).is_none());
 }
 
 fn assert_points(rt: &impl Abort, graph: &RoleGraph) {
@@ -121,14 +150,17 @@ fn assert_graphs<L: Ledger>(rt: &impl Abort, alloc: Global, blank: Blank) -> Res
     requires some { 0 < L.parts }
 {
     let mut steps: Steps<L> = Steps::new(blank);
-    let graph = graph_of(alloc, &small(alloc)?, &mut steps)?;
+    let pointing = small(alloc, AXIOMS.as_slice())?;
+    let graph = graph_of(alloc, &pointing, &mut steps)?;
     assert_points(rt, &graph);
     assert_live(rt, &graph);
     assert_round(rt, &graph_of(alloc, &round(alloc)?, &mut steps)?);
+    let clashing = small(alloc, CLASHING.as_slice())?;
+    assert_clashes(rt, &graph_of(alloc, &clashing, &mut steps)?);
     Ok(())
 }
 
 #[test]
-fn points_and_live_roles(rt: HostRuntime) -> Result<(), Fail> {
+fn points_live_roles_and_clashes(rt: HostRuntime) -> Result<(), Fail> {
     assert_graphs::<Brand>(&rt, rt.alloc(), Blank::new(1))
 }

@@ -3,7 +3,7 @@ use Rattle.dl_base.specs.Derivation.{inverse}
 use Rattle.dl_base.specs.Sets.{HasBasic}
 use Rattle.dl_base.specs.declared.concept.Basic.TheVariants as basic
 use Rattle.horn_closure.proofs.ClosureLemmas.{closure_held}
-use Rattle.role_graph.specs.Behind.{HeldBehind}
+use Rattle.dl_base.specs.Derivation.{HeldBehind}
 use Rattle.role_graph.proofs.closures.closed_behind.Goals as goal
 
 pub returns-clause-closure : goal.returns-clause-closure

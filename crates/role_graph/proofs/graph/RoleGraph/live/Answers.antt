@@ -1,6 +1,6 @@
 use Rattle.dl_base.specs.Sets.{HasRole}
 use Rattle.role_graph.proofs.ReachedLemmas.{reached_none, reached_more, all_reached, reached_inside, reached_is_live}
-use Rattle.role_graph.proofs.SetLemmas.{fewer_unset}
+use Rattle.dl_base.proofs.SetLemmas.{fewer_unset}
 use Rattle.role_graph.proofs.graph.RoleGraph.live.Goals as goal
 
 pub loop-s-init : goal.loop-s-init

@@ -1,7 +1,7 @@
 use Rattle.dl_base.specs.Ontology.{Terminology}
 use Rattle.role_graph.specs.Graph.{IsGraphOf}
 use Rattle.role_graph.proofs.ReachedLemmas.{AreReached}
-use Rattle.role_graph.proofs.SetLemmas.{unset}
+use Rattle.dl_base.proofs.SetLemmas.{unset}
 use Rattle.role_graph.proofs.graph.RoleGraph.live.Given as goal
 
 abbrev pub invariant-loop-s : goal.invariant-loop-s
