@@ -60,15 +60,15 @@ place_of limit [] m ms fits = fits
 place_of limit (e ∷ es) m ms fits = fits
 
 -- the gate behind an entry in the midst is not past the limit
-inner_fits : (limit : ℕ) (es : List Entry) (m : Entry) (ms : List Entry) → Fits limit (es ++ m ∷ ms) → gate_place es + 6 + length m.payload ≤ limit
+pub inner_fits : (limit : ℕ) (es : List Entry) (m : Entry) (ms : List Entry) → Fits limit (es ++ m ∷ ms) → gate_place es + 6 + length m.payload ≤ limit
 inner_fits limit es m ms fits = omega (arith, place_of limit es m ms fits, ap length (spelling-append es (m ∷ ms)), length-append (spelling es) (spelling (m ∷ ms)), length-append (body m) (spelling ms), length-body m)
 
-inner_entry : (b : Bounds) (es : List Entry) (m : Entry) (ms : List Entry) → All (IsEntry b) (es ++ m ∷ ms) → IsEntry b m
+pub inner_entry : (b : Bounds) (es : List Entry) (m : Entry) (ms : List Entry) → All (IsEntry b) (es ++ m ∷ ms) → IsEntry b m
 inner_entry b [] m ms all = All-head (IsEntry b) m ms all
 inner_entry b (e ∷ es) m ms all = inner_entry b es m ms (All-tail (IsEntry b) e (es ++ m ∷ ms) all)
 
 -- no entry stands behind a closed gate
-closed_ends : (gate : ℕ) (rest : List ℕ) (more : List Entry) (ys : List ℕ) → gate ≢ 1 → gate ∷ rest ≡ spelling more ++ ys → more ≡ []
+pub closed_ends : (gate : ℕ) (rest : List ℕ) (more : List Entry) (ys : List ℕ) → gate ≢ 1 → gate ∷ rest ≡ spelling more ++ ys → more ≡ []
 closed_ends gate rest [] ys closed is = refl
 closed_ends gate rest (m ∷ ms) ys closed is = absurd (closed (ap (λ (l : List ℕ). get_or l 0 0) is))
 
@@ -82,7 +82,7 @@ offence_ends b es xs at (m ∷ ms) ys place offence each fits is = absurd (⊎_e
     (ap (drop 1) (sym broken.is_open ∙ is) ∙ append_assoc (body m) (spelling ms) ys))
     offence)
 
-alone : (es : List Entry) (more : List Entry) (fs : List Entry) → fs ≡ es ++ more → more ≡ [] → fs ≡ es
+pub alone : (es : List Entry) (more : List Entry) (fs : List Entry) → fs ≡ es ++ more → more ≡ [] → fs ≡ es
 alone es more fs all none = all ∙ ap (λ (l : List Entry). es ++ l) none ∙ append-nil es
 
 pub stands_once : StandsOnce
@@ -104,7 +104,7 @@ no_offence b at gate rest closed offence = ⊎_elim
     (λ broken. closed (ap (λ (l : List ℕ). get_or l 0 0) broken.is_open))
     offence
 
-begins_top : (b : Bounds) (area : List ℕ) (es : List Entry) (rest : List ℕ) → Begins b area es rest → take 17 area ≡ top
+pub begins_top : (b : Bounds) (area : List ℕ) (es : List Entry) (rest : List ℕ) → Begins b area es rest → take 17 area ≡ top
 begins_top b area es rest begins = ap (take 17) (begins.spelled ∙ append_assoc top (spelling es) rest) ∙ take_at top (spelling es ++ rest) 17 refl
 
 pub stands_or_offends : StandsOrOffends

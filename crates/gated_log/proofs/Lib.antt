@@ -10,3 +10,5 @@ pub mod Gates
 pub mod Fresh
 pub mod Opened
 pub mod LawLemmas
+pub mod Every
+pub mod Reading

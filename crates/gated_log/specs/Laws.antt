@@ -1,5 +1,5 @@
 -- Laws of an area: it is fresh, or stands for one list of entries, or offends at one place, and never two of these.
-use Rattle.std.specs.Prelude.{◌≡◌, ℕ, List, [], ◌∷◌}
+use Rattle.std.specs.Prelude.{◌≡◌, ◌⊎◌, ℕ, List, [], ◌∷◌}
 use Rattle.gated_log.specs.Entries.{Bounds, Begins, Entry, IsFresh, Offends, Stands, within}
 
 abbrev pub StandsOnce : Type 0
@@ -17,3 +17,7 @@ FreshHasNoHeader = (b : Bounds) (area : List ℕ) (es : List Entry) (rest : List
 
 abbrev pub FreshNeverOffends : Type 0
 FreshNeverOffends = (b : Bounds) (area : List ℕ) (at : ℕ) → Offends b area at → IsFresh area → ⊥
+
+-- every area, with whatever numbers in it
+abbrev pub IsOneOfThree : Type 0
+IsOneOfThree = (b : Bounds) (area : List ℕ) → IsFresh area ⊎ (((es : List Entry) × Stands b area es) ⊎ ((at : ℕ) × Offends b area at))

@@ -1,6 +1,6 @@
 //! Laws of an area: public functions with no parameters, whose contracts are the laws.
 
-ghost use Rattle.gated_log.specs.Laws.{FreshHasNoHeader, FreshNeverOffends, OffendsOnce, StandsOnce, StandsOrOffends};
+ghost use Rattle.gated_log.specs.Laws.{FreshHasNoHeader, FreshNeverOffends, IsOneOfThree, OffendsOnce, StandsOnce, StandsOrOffends};
 
 /// An area stands for one list of entries at most.
 pub fn stands_once()
@@ -25,4 +25,9 @@ pub fn fresh_has_no_header()
 /// A fresh area doesn't offend.
 pub fn fresh_never_offends()
     ensures { FreshNeverOffends }
+{}
+
+/// Every area is fresh, or stands for a list of entries, or offends.
+pub fn one_of_three()
+    ensures { IsOneOfThree }
 {}

@@ -14,3 +14,6 @@ mod writing;
 
 pub use log::{AppendFault, Log};
 pub use reader::{LogFault, Next, Reader};
+
+#[cfg(test)]
+mod tests;

@@ -1,4 +1,3 @@
-pub mod SourceLemmas
 pub mod Moments
 pub mod Settled
 pub mod Replayed

@@ -86,7 +86,6 @@ impl Source for MemSource {
     ghost read_faults = { λ source. source.read_faults };
 
     /// Takes as many bytes as are left and go into the buffer.
-    #[tactic(auto, using(crate::proofs::SourceLemmas::takes_front, crate::proofs::SourceLemmas::none_left))]
     fn read(&mut self, buf: &mut [u8]) -> Result<usize, Failed>
         requires { 0 < length buf.old }
         ensures within { IfOk result (λ count. count ≤ length buf.new) }
@@ -143,7 +142,6 @@ impl Source for EvenSource {
     ghost read_faults = { λ _. 0 };
 
     /// Takes as many bytes as are left and go into the buffer.
-    #[tactic(auto, using(crate::proofs::SourceLemmas::takes_front, crate::proofs::SourceLemmas::none_left))]
     fn read(&mut self, buf: &mut [u8]) -> Result<usize, Failed>
         requires { 0 < length buf.old }
         ensures within { IfOk result (λ count. count ≤ length buf.new) }

@@ -154,11 +154,6 @@ onto_each-end {V} step front count i text le =
 
 pub ruleset each_lists = (onto_each-some, onto_each-err, onto_each-end)
 
--- nothing stands before the first
-pub onto_none : {V : Type 0} (r : Outcome (List V)) → onto [] r ≡ r
-onto_none (Ok x) = refl
-onto_none (Err left) = refl
-
 -- the exit of a loop over so many values at a fault
 pub each_fails : {V : Type 0} (e : ReadError) (step : List V → List ℕ → Outcome V) (front : List V) (count i : ℕ) (text : List ℕ) (total : Outcome (List V)) → i < count → Fails e (step front text)
     → onto front (each_at step front (count - i) text) ≡ total → Fails e total

@@ -12,3 +12,4 @@ pub mod Flawless
 pub mod WholeOntology
 pub mod SpelledOntology
 pub mod MeanOnce
+pub mod Lengths

@@ -1,10 +1,8 @@
 -- A payload means one thing.
-use Rattle.std.proofs.Common.{◌≡◌, ℕ, ◌≤◌, zero, suc, ◌<◌, true, List, [], ◌∷◌, length, Result, Ok, Err, refl, sym, ◌∙◌, arith, All}
+use Rattle.std.proofs.Common.{◌≡◌, ℕ, zero, suc, ◌<◌, true, List, [], ◌∷◌, Result, Ok, Err, refl, sym, ◌∙◌, arith, All}
 use Rattle.std.specs.Prelude.{codes}
-use Rattle.std.proofs.lemmas.List.Elements.{All-cons, All-nil}
 use Rattle.grammar.specs.Reading.{whole}
 use Rattle.grammar.proofs.Exact.{IsWhole, exact_whole}
-use Rattle.dl_base.specs.Names.{IsName}
 use Rattle.dl_base.specs.Ontology.{Terminology}
 use Rattle.dl_base.specs.declared.row.NamedRow.TheVariants as rows
 use Rattle.dl_base.specs.declared.row.NamedChange.{NamedChange}

@@ -9,6 +9,7 @@ use Rattle.std.proofs.lemmas.Slice.Eq.{bytes_eq-Decides}
 use Rattle.grammar.specs.Grammar.{Begins}
 use Rattle.grammar.proofs.Exact.{SameHead, IsExact, Anything}
 use Rattle.grammar.proofs.Rules.{reads_literal}
+use Rattle.dl_base.proofs.ExtendLemmas.{contains_any}
 use Rattle.txn_codec.specs.Pieces.{number, spelled_name}
 use Rattle.txn_codec.specs.Checked.{plain}
 use Rattle.txn_codec.specs.OntologyPayload.{count_to, byte_within, new_name, names, place_below, limit_of, tagged, member, tagged_head, some_head, inclusion, inclusions, ontology}
@@ -164,15 +165,6 @@ checks_byte : {text : List ℕ} (least most : ℕ) → least ≤ most → Checks
 checks_byte {text} least most le = checks_plain (exact_byte least most text le) record { text = least ∷ []; value = least; is = (refl, omega arith, le) }
 
 -- ---- names
-
-pub contains_any : (names : List (List ℕ)) (name : List ℕ) → Contains names name → list_any (bytes_eq name) names ≡ true
-contains_any [] name c = absurd (omega arith)
-contains_any (x ∷ xs) name (zero, below, at) = rw ((bytes_eq-Decides name x).1 (sym at)) refl
-contains_any (x ∷ xs) name (suc k, below, at) = by (bytes_eq name x) (contains_any xs name (k, omega arith, at))
-  where
-    by : (b : Bool) → list_any (bytes_eq name) xs ≡ true → (b || list_any (bytes_eq name) xs) ≡ true
-    by true h = refl
-    by false h = h
 
 pub any_contains : (names : List (List ℕ)) (name : List ℕ) → list_any (bytes_eq name) names ≡ true → Contains names name
 any_contains [] name e = absurd (cc)

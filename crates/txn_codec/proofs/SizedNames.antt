@@ -1,8 +1,7 @@
 -- Readers of names of so many bytes are exact.
 use Rattle.std.proofs.Common.{◌≡◌, ℕ, zero, suc, ◌+◌, ◌-◌, ◌<◌, ◌≤◌, Bool, true, false, cond, List, [], ◌∷◌, ◌++◌, length, replicate, Ok, Err, refl, sym, ap, subst, ◌∙◌, arith, nat_lt, append_assoc, inl, inr, length-append}
 use Rattle.std.specs.Prelude.{codes, not, ◌==◌}
-use Rattle.std.specs.List.{list_all}
-use Rattle.std.proofs.lemmas.Bool.{and_parts, ltb-true, ltb-false, cases_lt, lt-ltb, le-ltb}
+use Rattle.std.proofs.lemmas.Bool.{ltb-true, ltb-false, cases_lt, lt-ltb, le-ltb}
 use Rattle.grammar.specs.Bytes.{starts_name, is_name_byte, is_angled_byte, is_kind}
 use Rattle.grammar.specs.Grammar.{Grammar, ◌>>=◌, ◌>>◌, ◌∣◌, means, literal, bytes_within}
 use Rattle.grammar.specs.Reading.{Outcome, and_then, next_is, run_at}
@@ -13,7 +12,7 @@ use Rattle.grammar.proofs.Rules.{Reads, HasText, reads_any, reads_literal, reads
 use Rattle.grammar.specs.declared.bytes.Kind.TheVariants.{Starting, Naming, Angled}
 use Rattle.dl_base.specs.Names.{IsWord, IsReserved, IsBare, IsName, bare, angled, name}
 use Rattle.dl_base.specs.NameReading.{is_reserved}
-use Rattle.dl_base.proofs.NameRules.{reserved_cases, word_each, bare_of, run_at-cons, word_never, first_of_word}
+use Rattle.dl_base.proofs.NameRules.{reserved_cases, word_each, bare_of, each_of, run_at-cons, word_never, first_of_word}
 use Rattle.txn_codec.specs.PiecesReading.{exactly_at, bare_of_at, angled_of_at, name_of_at}
 use Rattle.txn_codec.proofs.Runs.{Every-append, Every-replicate, filled, length-filled, too_long, same_front, exact_exactly, and_then-cond}
 
@@ -26,12 +25,6 @@ sized n g text value = g text value × (length text ≡ n)
 -- no reserved word has the byte `0`
 abbrev not_zero : ℕ → Bool
 not_zero c = not (c == 48)
-
-each_of : (p : ℕ → Bool) (xs : List ℕ) → list_all p xs ≡ true → Every p xs
-each_of p [] e = tt
-each_of p (c ∷ cs) e =
-    let both = and_parts (p c) (list_all p cs) e in
-    (both.0, each_of p cs both.1)
 
 without_zero : (w : List ℕ) → IsReserved w → Every not_zero w
 without_zero w (inl e) = subst (λ (a : List ℕ). Every not_zero a) (sym e) (each_of not_zero (codes "nothing") refl)

@@ -190,8 +190,3 @@ reads_times (suc n) text each =
     reads_same (same_some n)
     (reads_any _ (each text) (λ v rest.
     reads_last (reads_times n rest each) (λ vs k f. tt)))
-
--- ---- what was written
-
-pub is_name_len : (t : List ℕ) → IsName t → length t ≤ 255
-is_name_len t s = (name_len t s.0 s.1).1

@@ -2,7 +2,7 @@
 use Rattle.std.proofs.Common.{◌≡◌, ℕ, zero, suc, ◌+◌, ◌*◌, ◌<◌, ◌≤◌, Bool, true, false, List, [], ◌∷◌, ◌++◌, length, refl, sym, arith, All, flat_map, length-append, Some, slice_get, get_or}
 use Rattle.std.specs.List.{AllByRecursion}
 use Rattle.std.proofs.lemmas.List.{append-nil}
-use Rattle.std.proofs.lemmas.List.Elements.{recursion_from_All, All-weaker}
+use Rattle.std.proofs.lemmas.List.Elements.{recursion_from_All}
 use Rattle.byteorder.specs.Endian.{big_bytes}
 use Rattle.grammar.specs.Grammar.{many}
 use Rattle.dl_base.specs.Names.{IsName}
@@ -12,6 +12,7 @@ use Rattle.dl_base.specs.declared.concept.Basic.TheVariants as basic
 use Rattle.dl_base.specs.declared.concept.Head.{Head}
 use Rattle.dl_base.specs.declared.concept.Head.TheVariants as heads
 use Rattle.dl_base.specs.declared.concept.Inclusion.{Inclusion}
+use Rattle.dl_base.proofs.OntologyLemmas.{within_limits}
 use Rattle.txn_codec.specs.Pieces.{spelled_name}
 use Rattle.txn_codec.specs.OntologyPayload.{count_to, names, tagged, member, tagged_head, some_head, inclusion, inclusions, ontology_payload}
 use Rattle.txn_codec.specs.Spelling.{name_bytes, names_bytes, role_tag, basic_bytes, head_bytes, inclusion_bytes, inclusions_bytes, ontology_bytes}
@@ -124,22 +125,6 @@ spelled_inclusions concepts roles is few all = record {
 }
 
 -- places of an ontology are below the limits
-placed_more : (c r c' r' : ℕ) → c ≤ c' → r ≤ r' → (b : Basic) → IsPlaced c r b → IsPlaced c' r' b
-placed_more c r c' r' le le' (basic.Concept n) is = omega (arith, is, le)
-placed_more c r c' r' le le' (basic.Exists s) is = omega (arith, is, le')
-
-placed_head_more : (c r c' r' : ℕ) → c ≤ c' → r ≤ r' → (h : Head) → IsPlacedHead c r h → IsPlacedHead c' r' h
-placed_head_more c r c' r' le le' (heads.Basic b) is = placed_more c r c' r' le le' b is
-placed_head_more c r c' r' le le' heads.Nothing is = tt
-
-pub within_limits : (o : Terminology) → IsTerminology o → All (IsWithin 512 256) o.inclusions
-within_limits o is = All-weaker (IsWithin (length o.concepts) (length o.roles)) (IsWithin 512 256) (λ i w. record {
-  least = w.least;
-  most = w.most;
-  body = All-weaker (IsPlaced (length o.concepts) (length o.roles)) (IsPlaced 512 256) (λ b p. placed_more (length o.concepts) (length o.roles) 512 256 is.concepts is.roles b p) i.body w.body;
-  head = placed_head_more (length o.concepts) (length o.roles) 512 256 is.concepts is.roles i.head w.head;
-}) o.inclusions is.within
-
 pub spelled_ontology : (o : Terminology) → IsTerminology o → All IsName o.concepts → All IsName o.roles → ontology_payload (ontology_bytes o) o
 spelled_ontology o is cs rs = (
   record {
@@ -173,11 +158,11 @@ basic_len : (b : Basic) → length (basic_bytes b) ≡ 3
 basic_len (basic.Concept c) = refl
 basic_len (basic.Exists r) = refl
 
-body_len : (body : List Basic) → length (flat_map basic_bytes body) ≡ 3 * length body
+pub body_len : (body : List Basic) → length (flat_map basic_bytes body) ≡ 3 * length body
 body_len [] = refl
 body_len (b ∷ bs) = omega (arith, length-append (basic_bytes b) (flat_map basic_bytes bs), basic_len b, body_len bs)
 
-head_len : (h : Head) → length (head_bytes h) ≡ 3
+pub head_len : (h : Head) → length (head_bytes h) ≡ 3
 head_len (heads.Basic b) = basic_len b
 head_len heads.Nothing = refl
 

@@ -9,12 +9,13 @@ use Rattle.grammar.specs.Grammar.{Grammar, Begins, IsFaultAt}
 use Rattle.grammar.specs.Grammar.{Contains as HasValue}
 use Rattle.grammar.proofs.Exact.{IsExact, Anything, Nothing, IsWhole, exact_fewer, exact_whole}
 use Rattle.dl_base.specs.Ontology.{Terminology}
+use Rattle.dl_base.proofs.ExtendLemmas.{contains_any}
 use Rattle.txn_codec.specs.Checked.{Checked, IsLeastFault}
 use Rattle.txn_codec.specs.OntologyPayload.{ontology, ontology_payload}
 use Rattle.txn_codec.specs.PiecesReading.{name_length_at, spelled_name_at}
 use Rattle.txn_codec.specs.OntologyReading.{new_name_at, ontology_at}
 use Rattle.txn_codec.proofs.CheckedRules.{IsChecked, IsFlawed}
-use Rattle.txn_codec.proofs.OntologyRules.{contains_any, any_contains, checks_ontology}
+use Rattle.txn_codec.proofs.OntologyRules.{any_contains, checks_ontology}
 use Rattle.txn_codec.proofs.Flawless.{flawless}
 
 -- what begins a text of the grammar does so with fewer bytes

@@ -9,3 +9,4 @@ pub mod OntologyPayload
 pub mod OntologyReading
 pub mod Fault
 pub mod Laws
+pub mod Count

@@ -4,12 +4,14 @@ ghost use Rattle.std.specs.Prelude.{◌≡◌, IfOk, IfErr, List};
 ghost use Rattle.grammar.specs.Reading.{Gives, whole};
 ghost use Rattle.dl_base.specs.declared.row.NamedChange.{NamedChange};
 ghost use Rattle.txn_codec.specs.Changes.{changes_payload};
+ghost use Rattle.txn_codec.specs.Count.{IsCountOfChanges};
 ghost use Rattle.txn_codec.specs.PiecesReading.{times_at};
 ghost use Rattle.txn_codec.specs.ChangesReading.{sign_at, row_at, change_at, changes_at};
 ghost use Rattle.txn_codec.specs.Fault.{IsChangesFault};
 
 use crate::CodecError;
 use crate::pieces::{read_spelled_name, read_u32};
+use byteorder::{BigEndian, ByteOrder};
 use dl_base::{Changes, Items, NamedChange, NamedRow};
 use grammar::{ReadError, expect, next_is_byte};
 use std::alloc::Global;
@@ -95,6 +97,17 @@ fn read_whole(alloc: Global, text: &[u8]) -> Result<Changes, ReadError>
         return Err(ReadError::Fault(rest.len()));
     }
     Ok(changes)
+}
+
+/// How many changes the bytes have, where they are a payload of changes; none where they are too short to be one. It
+/// takes no memory, so that a payload of too many changes can be refused before it is read.
+pub fn count_of_changes(bytes: &[u8]) -> Option<u32>
+    ensures { IsCountOfChanges bytes.now result }
+{
+    if bytes.len() < 4 {
+        return None;
+    }
+    Some(BigEndian::read_u32(bytes))
 }
 
 /// The changes that the bytes are the payload of.

@@ -14,7 +14,7 @@ mod pieces;
 mod put;
 
 pub use changes::{changes_len, write_changes};
-pub use changes_reader::read_changes;
+pub use changes_reader::{count_of_changes, read_changes};
 pub use fault::CodecError;
 pub use ontology_reader::read_ontology;
 pub use ontology_writer::{ontology_len, write_ontology};

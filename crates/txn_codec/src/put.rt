@@ -18,7 +18,6 @@ pub(crate) fn put(bytes: &[u8], out: &mut Vec<u8>)
 }
 
 /// Appends a name behind its length.
-#[tactic(auto, using(crate::proofs::SpelledNames::is_name_len))]
 pub(crate) fn put_name(name: &Name, out: &mut Vec<u8>)
     requires { HasRoom out.old (length (name_bytes name.now)) }
     ensures appended { Appends out.old out.new (name_bytes name.now) }
@@ -30,7 +29,6 @@ pub(crate) fn put_name(name: &Name, out: &mut Vec<u8>)
 }
 
 /// How many bytes a name takes behind its length.
-#[tactic(auto, using(crate::proofs::SpelledNames::is_name_len))]
 pub(crate) fn name_len(name: &Name) -> u64
     ensures len { result ≡ length (name_bytes name.now) }
     ensures most { result ≤ 256 }

@@ -220,3 +220,9 @@ fn an_ontology_at_its_limits(rt: HostRuntime) -> Result<(), Fail> {
     assert_eq!(rt; ontology(rt.alloc(), out.as_slice())?, Seen::Read);
     Ok(())
 }
+
+#[test]
+fn the_number_of_changes_is_told(rt: HostRuntime) {
+    assert_eq!(rt; count_of_changes(b"\x00\x01\x02\x03\x04"), Some(66_051));
+    assert_eq!(rt; count_of_changes(b"\x00\x01\x02"), None);
+}
