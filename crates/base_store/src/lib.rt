@@ -1,0 +1,7 @@
+//! A base's history in the log: an ontology, and the transactions behind it.
+//!
+//! `specs/History.antt` says what a history is and which rows it has, `specs/Area.antt` which areas keep one and where an
+//! area that keeps none offends.
+#![tactic(auto)]
+
+pub mod laws;
