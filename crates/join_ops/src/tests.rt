@@ -3,8 +3,8 @@ ghost use Rattle.std.specs.Prelude.{◌≡◌, length};
 
 use crate::Matches;
 use cq_reader::read_query;
-use dl_base::{Axiom, Elem, Items, Name, Names, Ontology, Row};
-use plain_tables::PlainTables;
+use dl_base::{Axiom, Elem, Items, Name, Names, Ontology};
+use listed_tables::{ListedRow, ListedTables};
 use query_shape::{Shape, shape};
 use std::alloc::{AllocError, Global};
 use std::process::Abort;
@@ -55,18 +55,22 @@ const MATCHES: [(&[u8], &[Option<u32>], &[u32]); 12] = [
     (b"q() :- A(?x), B(?x)", &[None], &[]),
 ];
 
-fn tables(alloc: Global) -> Result<PlainTables, AllocError> {
-    let mut rows = Items::new(alloc);
+fn tables(alloc: Global) -> Result<ListedTables, AllocError> {
+    let mut rows = Vec::new(alloc);
     for (concept, individual) in CONCEPTS {
-        rows.push(Row::Concept {
+        rows.push(ListedRow::Concept {
             concept,
-            individual,
+            element: Elem::Named(individual),
         })?;
     }
     for (role, from, to) in ROLES {
-        rows.push(Row::Role { role, from, to })?;
+        rows.push(ListedRow::Role {
+            role,
+            from: Elem::Named(from),
+            to: Elem::Named(to),
+        })?;
     }
-    PlainTables::new(alloc, rows)
+    Ok(ListedTables::new(rows))
 }
 
 fn names(alloc: Global, first: &[u8], second: &[u8]) -> Result<Names, Fail> {
@@ -96,7 +100,7 @@ fn number(e: &Elem) -> u32 {
 /// The images of up to 20 matches, one match behind another.
 fn found(
     alloc: Global,
-    t: &PlainTables,
+    t: &ListedTables,
     s: &Shape,
     fixed: &[Option<u32>],
 ) -> Result<Vec<u32>, AllocError>
@@ -123,7 +127,7 @@ fn shape_of(alloc: Global, o: &Ontology, text: &[u8]) -> Result<Shape, Fail> {
 fn assert_found(
     rt: &impl Abort,
     alloc: Global,
-    t: &PlainTables,
+    t: &ListedTables,
     s: &Shape,
     fixed: &[Option<u32>],
     wanted: &[u32],

@@ -1,0 +1,12 @@
+use Rattle.std.proofs.Common.{false, Contains, map, ◌≡◌, ◌↔◌, sym, subst, ap, List, ◌∙◌}
+use Rattle.dl_base.specs.Tables.{TableRow, IsLeastAbove, AreCounted, HasEdge, ConceptRow, RoleRow, edge_row, IsIn}
+use Rattle.listed_tables.specs.Listed.{IsGivenBy, table_row}
+use Rattle.listed_tables.specs.declared.tables.ListedRow.{ListedRow}
+use Rattle.listed_tables.proofs.GivenLemmas.{least_same, members_given}
+use Rattle.listed_tables.proofs.tables.ListedTablesTables.next_concept.Goals as goal
+
+pub returns : goal.returns
+returns c =
+    let is : c.args.self.now ≡ map table_row c.as_slice.result.now = sym c.self.view_is ∙ ap (λ (rows : List ListedRow). map table_row rows) (sym c.as_slice.ensures.value) in
+    subst (λ (t : List TableRow). IsLeastAbove (λ e. Contains t (ConceptRow c.args.concept e)) c.args.after c.least_above.result) (sym is)
+    (least_same _ _ (members_given c.as_slice.result.now c.args.concept) _ _ c.least_above.ensures)
