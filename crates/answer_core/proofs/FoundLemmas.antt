@@ -1,43 +1,31 @@
 -- The keys of a query are those that the matches of its shape spell.
-use Rattle.std.proofs.Common.{◌≡◌, ◌≢◌, ◌↔◌, ◌<◌, ℕ, zero, suc, List, [], ◌∷◌, map, length, get_or, All, AllPairs, Contains, Option, Some, None, slice_get, Result, Ok, Err, IfOk, refl, sym, ◌∙◌, ap, subst, arith}
+use Rattle.std.proofs.Common.{◌≡◌, ◌≢◌, ◌↔◌, ℕ, List, [], ◌∷◌, map, length, AllPairs, Contains, Option, Some, None, slice_get, Result, Ok, Err, IfOk, refl, sym, ◌∙◌, ap, subst, arith}
 use Rattle.std.specs.List.{AllZip}
-use Rattle.std.proofs.lemmas.List.Elements.{All-cons, All-nil, Contains-get_or}
 use Rattle.std.proofs.lemmas.Option.{slice_get_within}
 use Rattle.dl_base.specs.Ontology.{Terminology, IsTerminology}
 use Rattle.dl_base.specs.Query.{Question, IsQuery, terms}
 use Rattle.dl_base.specs.Answers.{key_cmp, AreAnswers}
 use Rattle.dl_base.specs.Completion.{AreCompleted}
-use Rattle.dl_base.specs.declared.concept.Role.{Role}
-use Rattle.dl_base.specs.declared.row.NamedRow.{NamedRow}
-use Rattle.dl_base.proofs.RowLemmas.{none_rising}
 use Rattle.dl_base.specs.Tables.{TableRow}
+use Rattle.dl_base.specs.declared.concept.Role.{Role}
 use Rattle.dl_base.specs.declared.element.Elem.{Elem}
 use Rattle.dl_base.specs.declared.element.Elem.TheVariants as elem
+use Rattle.dl_base.specs.declared.row.NamedRow.{NamedRow}
 use Rattle.dl_base.specs.declared.query.Term.{Term}
 use Rattle.dl_base.specs.declared.query.Term.TheVariants as term
-use Rattle.query_shape.specs.Shape.{Layout, IsShapeMatch}
 use Rattle.dl_base.proofs.PlaceLemmas.{one_place, some_same, member_at}
-use Rattle.query_shape.proofs.NumberingLemmas.{occur_distinct, occur_from}
-use Rattle.query_shape.proofs.MatchLemmas.{same_matches, each_placing}
+use Rattle.dl_base.proofs.RowLemmas.{none_rising}
+use Rattle.query_shape.specs.Lifting.{LiftsShape}
+use Rattle.query_shape.specs.Shape.{IsShapeMatch}
+use Rattle.query_shape.proofs.LiftLemmas.{same_lifting}
+use Rattle.query_shape.proofs.MatchLemmas.{same_matches, each_placing, image_at}
+use Rattle.query_shape.proofs.NumberingLemmas.{occur_distinct, occur_from, occur_into}
 use Rattle.join_ops.specs.Joins.{IsFixed}
-use Rattle.answer_core.specs.Keys.{IsNumbered, IsKeyOf, AreKeys}
-use Rattle.answer_core.specs.AnswerLaws.{HasNoSuccessorHead}
+use Rattle.answer_core.specs.Keys.{IsNumbered, IsKeyOf}
 use Rattle.answer_core.specs.Binding.{BoundQuery, IsBoundTo, IsFixedTerm}
 use Rattle.answer_core.specs.Found.{AllStand, IsFoundKey, Spells, AreSpelled}
 use Rattle.answer_core.proofs.KeyLemmas.{keys_are_certain}
 use Rattle.answer_core.proofs.ListLemmas.{at_place, zip_at, zip_back}
-use Rattle.answer_core.proofs.TermLemmas.{occur_each}
-
--- the image of a numbered term is its place
-map_at : (place : Term → Elem) (ts : List Term) (k : ℕ) (t : Term) → slice_get ts k ≡ Some t → slice_get (map place ts) k ≡ Some (place t)
-map_at place [] k t at = absurd cc
-map_at place (u ∷ us) zero t at = ap Some (ap place (some_same at))
-map_at place (u ∷ us) (suc k) t at = map_at place us k t at
-
-map_back : (place : Term → Elem) (ts : List Term) (k : ℕ) (e : Elem) → slice_get (map place ts) k ≡ Some e → (t : Term) × (slice_get ts k ≡ Some t) × (place t ≡ e)
-map_back place [] k e at = absurd cc
-map_back place (u ∷ us) zero e at = (u, refl, some_same at)
-map_back place (u ∷ us) (suc k) e at = map_back place us k e at
 
 -- an individual of the list has a number
 record Numbered (names : List (List ℕ)) (e : Elem) (a : List ℕ) : Type 0 where
@@ -58,31 +46,28 @@ name_fixed : (names : List (List ℕ)) (a : List ℕ) (fixed : Option ℕ) → C
 name_fixed names a None known h = absurd (h known)
 name_fixed names a (Some n) known h = (n, refl, h)
 
-module _ (o : Terminology) (table : List TableRow) (names : List (List ℕ)) (q : Question) (b : BoundQuery) (fixed : List (Option ℕ))
+module _ (o : Terminology) (rows : List NamedRow) (names : List (List ℕ)) (generation : Role → ℕ) (table : List TableRow) (q : Question) (b : BoundQuery) (fixed : List (Option ℕ))
     (terminology : IsTerminology o) (bound : IsBoundTo o q b) (distinct : AllPairs (λ x y. x ≢ y) names)
     (fixed_are : AllZip (IsFixedTerm names) b.shape.terms fixed) (known : (a : List ℕ) → Contains b.shape.terms (term.Named a) → Contains names a) where
   -- from a key
-  module _ (key : List (List ℕ)) (k : IsKeyOf o table names q key) where
-    images : List Elem
+  module _ (key : List (List ℕ)) (k : IsKeyOf o rows names generation table q key) where
+    abbrev images : List Elem
     images = map k.place b.shape.terms
 
     match_of_key : IsShapeMatch table b.shape images
-    unfolding images
     match_of_key = (same_matches o table q b.shape k.place terminology.distinct_concepts terminology.distinct_roles bound.shape).0 k.match_is
 
     fixed_of_key : IsFixed fixed images
-    unfolding images
     fixed_of_key i n at =
         let found = zip_back (IsFixedTerm names) b.shape.terms fixed i (Some n) fixed_are at in
         let name = fixed_name names found.0 n found.2 in
         let there : Contains (terms q) (term.Named name.0) = occur_from bound.shape.terms_are (term.Named name.0) (member_at b.shape.terms i (term.Named name.0) (found.1 ∙ ap Some name.1)) in
         let number = numbered names (k.place (term.Named name.0)) name.0 (k.names_are name.0 there) in
         let one : number.number ≡ n = one_place names number.number n name.0 distinct number.at name.2 in
-        map_at k.place b.shape.terms i found.0 found.1 ∙ ap Some (ap k.place name.1 ∙ (number.is ∙ ap elem.Named one))
+        image_at k.place b.shape.terms i found.0 found.1 ∙ ap Some (ap k.place name.1 ∙ (number.is ∙ ap elem.Named one))
 
     numbers_of_key : (vs : List (List ℕ)) (places : List ℕ) (key_names : List (List ℕ)) → AllZip (λ v n. slice_get b.shape.terms n ≡ Some (term.Var v)) vs places
         → AllZip (λ v a. IsNumbered names (k.place (term.Var v)) a) vs key_names → (numbers : List ℕ) × AllStand images places (length names) numbers × Spells names numbers key_names
-    unfolding images
     numbers_of_key [] [] [] p s = ([], tt, tt)
     numbers_of_key [] (n ∷ ns) rest p s = absurd p
     numbers_of_key [] [] (a ∷ rest) p s = absurd s
@@ -91,20 +76,21 @@ module _ (o : Terminology) (table : List TableRow) (names : List (List ℕ)) (q 
     numbers_of_key (v ∷ vs) (n ∷ ns) (a ∷ rest) p s =
         let number = numbered names (k.place (term.Var v)) a s.0 in
         let others = numbers_of_key vs ns rest p.1 s.1 in
-        (number.number ∷ others.0, ((map_at k.place b.shape.terms n (term.Var v) p.0 ∙ ap Some number.is, slice_get_within names number.number a number.at), others.1), (number.at, others.2))
+        (number.number ∷ others.0, ((image_at k.place b.shape.terms n (term.Var v) p.0 ∙ ap Some number.is, slice_get_within names number.number a number.at), others.1), (number.at, others.2))
 
-    pub found_of_key : (numbers : List ℕ) × IsFoundKey table b fixed (length names) numbers × Spells names numbers key
+    found_of_key : (numbers : List ℕ) × IsFoundKey o rows names generation table b fixed (length names) numbers × Spells names numbers key
     found_of_key =
         let numbers = numbers_of_key q.answers b.answers key bound.answers k.answers in
-        (numbers.0, record { images = images; match_is = match_of_key; fixed_are = fixed_of_key; reads = numbers.1 }, numbers.2)
+        let lifts = (same_lifting o rows names generation q b.shape k.place terminology.distinct_concepts terminology.distinct_roles bound.shape).0 k.lifts in
+        (numbers.0, record { images = images; match_is = match_of_key; lifts = lifts; fixed_are = fixed_of_key; reads = numbers.1 }, numbers.2)
 
   -- from a match
-  module _ (numbers : List ℕ) (found : IsFoundKey table b fixed (length names) numbers) (key : List (List ℕ)) (spells : Spells names numbers key) where
+  module _ (numbers : List ℕ) (found : IsFoundKey o rows names generation table b fixed (length names) numbers) (key : List (List ℕ)) (spells : Spells names numbers key) where
     placing : (place : Term → Elem) × (map place b.shape.terms ≡ found.images)
     placing = each_placing b.shape.terms found.images (occur_distinct bound.shape.terms_are) found.match_is.count
 
     stands_at : (n : ℕ) (t : Term) (e : Elem) → slice_get b.shape.terms n ≡ Some t → slice_get found.images n ≡ Some e → placing.0 t ≡ e
-    stands_at n t e at image = some_same (sym (map_at placing.0 b.shape.terms n t at) ∙ (ap (λ (es : List Elem). slice_get es n) placing.1 ∙ image))
+    stands_at n t e at image = some_same (sym (image_at placing.0 b.shape.terms n t at) ∙ (ap (λ (es : List Elem). slice_get es n) placing.1 ∙ image))
 
     is_numbered : (e : Elem) (n : ℕ) (a : List ℕ) → e ≡ elem.Named n → slice_get names n ≡ Some a → IsNumbered names e a
     is_numbered e n a is at = subst (λ (f : Elem). IsNumbered names f a) (sym is) at
@@ -123,84 +109,64 @@ module _ (o : Terminology) (table : List TableRow) (names : List (List ℕ)) (q 
 
     names_of : (a : List ℕ) → Contains (terms q) (term.Named a) → IsNumbered names (placing.0 (term.Named a)) a
     names_of a there =
-        let among : Contains b.shape.terms (term.Named a) = occur_each bound.shape.terms_are (term.Named a) there in
+        let among : Contains b.shape.terms (term.Named a) = occur_into bound.shape.terms_are (term.Named a) there in
         let at = at_place b.shape.terms (term.Named a) among in
         let entry = zip_at (IsFixedTerm names) b.shape.terms fixed at.0 (term.Named a) fixed_are at.2 in
         let number = name_fixed names a entry.0 (known a among) entry.2 in
         is_numbered (placing.0 (term.Named a)) number.0 a
         (stands_at at.0 (term.Named a) (elem.Named number.0) at.2 (found.fixed_are at.0 number.0 (entry.1 ∙ ap Some number.1))) number.2
 
-    pub key_of_found : IsKeyOf o table names q key
+    key_of_found : IsKeyOf o rows names generation table q key
     key_of_found = record {
       place = placing.0;
       match_is = (same_matches o table q b.shape placing.0 terminology.distinct_concepts terminology.distinct_roles bound.shape).1
           (subst (IsShapeMatch table b.shape) (sym placing.1) found.match_is);
+      lifts = (same_lifting o rows names generation q b.shape placing.0 terminology.distinct_concepts terminology.distinct_roles bound.shape).1
+          (subst (LiftsShape o rows names generation b.shape) (sym placing.1) found.lifts);
       answers = answers_of q.answers b.answers numbers key bound.answers found.reads spells;
       names_are = names_of;
     }
 
-  -- the spelled keys are the keys
-  pub are_keys : (found : List (List ℕ)) (keys : List (List (List ℕ))) → ((numbers : List ℕ) → Contains found numbers ↔ IsFoundKey table b fixed (length names) numbers)
-      → AreSpelled names found keys → AreKeys o table names q keys
-  are_keys found keys each spelled = record {
-    rising = spelled.rising;
-    members = λ key. (
-      λ c. (let s = (spelled.members key).0 c in key_of_found s.0 ((each s.0).0 s.1) key s.2),
-      λ k. (let f = found_of_key key k in (spelled.members key).1 (f.0, (each f.0).1 f.1, f.2)),
-    );
-  }
+  module _ (query : IsQuery q) (completed : AreCompleted o rows names generation table) where
+    -- the spelled keys are the answers
+    pub are_answers : (found : List (List ℕ)) (keys : List (List (List ℕ))) → ((numbers : List ℕ) → Contains found numbers ↔ IsFoundKey o rows names generation table b fixed (length names) numbers)
+        → AreSpelled names found keys → AreAnswers o rows q keys
+    are_answers found keys each spelled = record {
+      rising = spelled.rising;
+      members = λ key. (
+        λ c. (
+            let s = (spelled.members key).0 c in
+            (keys_are_certain o rows names generation table q key query completed).1 (key_of_found s.0 ((each s.0).0 s.1) key s.2)
+            ),
+        λ certain. (
+            let f = found_of_key key ((keys_are_certain o rows names generation table q key query completed).0 certain) in
+            (spelled.members key).1 (f.0, (each f.0).1 f.1, f.2)
+            ),
+      );
+    }
 
-  pub keys_result : {E : Type 0} (found : List (List ℕ)) (r : Result (List (List (List ℕ))) E) → ((numbers : List ℕ) → Contains found numbers ↔ IsFoundKey table b fixed (length names) numbers)
-      → IfOk r (AreSpelled names found) → IfOk r (AreKeys o table names q)
-  keys_result found (Ok keys) each spelled = are_keys found keys each spelled
-  keys_result found (Err e) each spelled = tt
+    pub answers_result : {E : Type 0} (found : List (List ℕ)) (r : Result (List (List (List ℕ))) E)
+        → ((numbers : List ℕ) → Contains found numbers ↔ IsFoundKey o rows names generation table b fixed (length names) numbers)
+        → IfOk r (AreSpelled names found) → IfOk r (AreAnswers o rows q)
+    answers_result found (Ok keys) each spelled = are_answers found keys each spelled
+    answers_result found (Err e) each spelled = tt
 
--- a name that isn't in the list has no match
-pub no_keys : (o : Terminology) (table : List TableRow) (names : List (List ℕ)) (q : Question) (b : BoundQuery) → IsBoundTo o q b
-    → (((a : List ℕ) → Contains b.shape.terms (term.Named a) → Contains names a) → ⊥) → AreKeys o table names q []
-no_keys o table names q b bound unknown = record {
+-- where a name isn't in the list there is no answer
+pub no_answers : (o : Terminology) (rows : List NamedRow) (names : List (List ℕ)) (generation : Role → ℕ) (table : List TableRow) (q : Question) (b : BoundQuery) → IsBoundTo o q b → IsQuery q
+    → AreCompleted o rows names generation table → (((a : List ℕ) → Contains b.shape.terms (term.Named a) → Contains names a) → ⊥) → AreAnswers o rows q []
+no_answers o rows names generation table q b bound query completed unknown = record {
   rising = none_rising key_cmp;
-  members = λ key. (λ c. absurd (omega arith), λ k. absurd (unknown (λ a there. by a (numbered names (k.place (term.Named a)) a (k.names_are a (occur_from bound.shape.terms_are (term.Named a) there))))));
+  members = λ key. (λ c. absurd (omega arith), λ certain. absurd (unlifted key ((keys_are_certain o rows names generation table q key query completed).0 certain)));
 }
   where
     by : (a : List ℕ) {e : Elem} → Numbered names e a → Contains names a
     by a n = member_at names n.number a n.at
 
--- the keys are the answers
-pub are_answers : (o : Terminology) (rows : List NamedRow) (names : List (List ℕ)) (generation : Role → ℕ) (table : List TableRow) (q : Question) (keys : List (List (List ℕ)))
-    → IsQuery q → HasNoSuccessorHead o → AreCompleted o rows names generation table → AreKeys o table names q keys → AreAnswers o rows q keys
-are_answers o rows names generation table q keys query heads completed are = record {
-  rising = are.rising;
-  members = λ key. (
-    λ c. (keys_are_certain o rows names generation table q key query heads completed).1 ((are.members key).0 c),
-    λ certain. (are.members key).1 ((keys_are_certain o rows names generation table q key query heads completed).0 certain),
-  );
-}
-
-pub answers_result : {E : Type 0} (o : Terminology) (rows : List NamedRow) (names : List (List ℕ)) (generation : Role → ℕ) (table : List TableRow) (q : Question) (r : Result (List (List (List ℕ))) E)
-    → IsQuery q → HasNoSuccessorHead o → AreCompleted o rows names generation table → IfOk r (AreKeys o table names q) → IfOk r (AreAnswers o rows q)
-answers_result o rows names generation table q (Ok keys) query heads completed are = are_answers o rows names generation table q keys query heads completed are
-answers_result o rows names generation table q (Err e) query heads completed are = tt
-
--- what is found are numbers of names
-reads_within : (es : List Elem) (count : ℕ) (places numbers : List ℕ) → AllStand es places count numbers → All (λ n. n < count) numbers
-reads_within es count [] [] r = All-nil (λ n. n < count)
-reads_within es count [] (n ∷ ns) r = absurd r
-reads_within es count (p ∷ ps) [] r = absurd r
-reads_within es count (p ∷ ps) (n ∷ ns) r = All-cons (λ n. n < count) n ns r.0.1 (reads_within es count ps ns r.1)
-
-pub found_within : (table : List TableRow) (b : BoundQuery) (fixed : List (Option ℕ)) (count : ℕ) (found : List (List ℕ))
-    → ((numbers : List ℕ) → Contains found numbers ↔ IsFoundKey table b fixed count numbers) → All (All (λ n. n < count)) found
-found_within table b fixed count found each k d below =
-    let key = (each (get_or found k d)).0 (Contains-get_or found k d below) in
-    reads_within key.images count b.answers (get_or found k d) key.reads
+    unlifted : (key : List (List ℕ)) → IsKeyOf o rows names generation table q key → ⊥
+    unlifted key k = unknown (λ a there. by a (numbered names (k.place (term.Named a)) a (k.names_are a (occur_from bound.shape.terms_are (term.Named a) there))))
 
 -- the same of what is equal
-pub found_as : (table : List TableRow) (shape : Layout) (places others : List ℕ) (fixed of_terms : List (Option ℕ)) (count most : ℕ) (found : List (List ℕ))
-    → places ≡ others → fixed ≡ of_terms → count ≡ most
-    → ((numbers : List ℕ) → Contains found numbers ↔ IsFoundKey table (record { shape = shape; answers = places }) fixed count numbers)
-    → (numbers : List ℕ) → Contains found numbers ↔ IsFoundKey table (record { shape = shape; answers = others }) of_terms most numbers
-found_as table shape places others fixed of_terms count most found p f c each numbers =
-    subst (λ (x : List ℕ). Contains found numbers ↔ IsFoundKey table (record { shape = shape; answers = x }) of_terms most numbers) p
-    (subst (λ (x : List (Option ℕ)). Contains found numbers ↔ IsFoundKey table (record { shape = shape; answers = places }) x most numbers) f
-    (subst (λ (x : ℕ). Contains found numbers ↔ IsFoundKey table (record { shape = shape; answers = places }) fixed x numbers) c (each numbers)))
+pub found_as : (P : List ℕ → List (Option ℕ) → ℕ → Type 0) (places others : List ℕ) (fixed of_terms : List (Option ℕ)) (count most : ℕ)
+    → places ≡ others → fixed ≡ of_terms → count ≡ most → P places fixed count → P others of_terms most
+found_as P places others fixed of_terms count most p f c h =
+    subst (λ (x : List ℕ). P x of_terms most) p (subst (λ (x : List (Option ℕ)). P places x most) f (subst (λ (x : ℕ). P places fixed x) c h))

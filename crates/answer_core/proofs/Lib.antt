@@ -1,5 +1,3 @@
-pub mod Successors
-pub mod Sitting
 pub mod KeyLemmas
 pub mod ListLemmas
 pub mod KeySets
@@ -9,4 +7,3 @@ pub mod ReadLemmas
 pub mod FoundLemmas
 pub mod RankLemmas
 pub mod LoopLemmas
-pub mod DomainExample

@@ -1,9 +1,12 @@
 -- What a match has at the answer places.
-use Rattle.std.proofs.Common.{◌≡◌, ◌↔◌, ℕ, ◌⊎◌, inl, inr, ◌<◌, ◌≤◌, List, [], ◌∷◌, length, get_or, Contains, slice_get, Some, refl, sym, ◌∙◌, ap, subst, arith}
+use Rattle.std.proofs.Common.{◌≡◌, ◌↔◌, ℕ, ◌⊎◌, inl, inr, ◌<◌, ◌≤◌, true, List, [], ◌∷◌, length, get_or, All, Contains, slice_get, Some, refl, sym, ◌∙◌, ap, subst, arith}
+use Rattle.std.proofs.lemmas.List.Elements.{All-cons, All-nil, All-contains, Contains-get_or}
 use Rattle.std.proofs.lemmas.Option.{slice_get-get_or, slice_get_within, get_or_from_slice_get}
 use Rattle.dl_base.specs.declared.element.Elem.{Elem}
 use Rattle.dl_base.specs.declared.element.Elem.TheVariants as elem
-use Rattle.answer_core.specs.Found.{IsOf, Stands, AllStand, AddsKey}
+use Rattle.match_filter.specs.LiftingTest.{DecidesLifting}
+use Rattle.query_shape.specs.Shape.{Layout}
+use Rattle.answer_core.specs.Found.{IsOf, Stands, AllStand, AddsKey, AddsLifted, AreWithin}
 use Rattle.answer_core.proofs.ListLemmas.{zip_each, zip_at}
 use Rattle.dl_base.proofs.PlaceLemmas.{some_same}
 
@@ -51,3 +54,24 @@ adds_read images count places key old new adds reads numbers = (
   λ c. elim ((adds numbers).0 c) [ inl d ↦ inl d | inr e ↦ inr (subst (AllStand images places count) (sym e) reads) ],
   λ either. (adds numbers).1 (elim either [ inl d ↦ inl d | inr r ↦ inr (reads_same images count places key numbers reads r) ]),
 )
+
+-- where the images lift, their key is added
+pub adds_lifted : (s : Layout) (images : List Elem) (count : ℕ) (places key : List ℕ) (old new : List (List ℕ)) → DecidesLifting s images true → AddsKey old key new → AllStand images places count key
+    → AddsLifted s images places count old new
+adds_lifted s images count places key old new decides adds reads = λ o rows names generation table base match numbers.
+    let lifts = (decides o rows names generation table base.distinct base.completed match).0 refl in
+    let read = adds_read images count places key old new adds reads numbers in
+    (λ c. elim (read.0 c) [ inl d ↦ inl d | inr r ↦ inr (lifts, r) ], λ either. read.1 (elim either [ inl d ↦ inl d | inr both ↦ inr both.1 ]))
+
+-- what is read are numbers below the count
+pub reads_within : (es : List Elem) (count : ℕ) (places numbers : List ℕ) → AllStand es places count numbers → All (λ n. n < count) numbers
+reads_within es count [] [] r = All-nil (λ n. n < count)
+reads_within es count [] (n ∷ ns) r = absurd r
+reads_within es count (p ∷ ps) [] r = absurd r
+reads_within es count (p ∷ ps) (n ∷ ns) r = All-cons (λ n. n < count) n ns r.0.1 (reads_within es count ps ns r.1)
+
+pub added_within : (es : List Elem) (count : ℕ) (places key : List ℕ) (old new : List (List ℕ)) → AddsKey old key new → AllStand es places count key → AreWithin count old → AreWithin count new
+added_within es count places key old new adds reads within k d below = elim ((adds (get_or new k d)).0 (Contains-get_or new k d below)) [
+  | inl was ↦ All-contains (All (λ n. n < count)) old (get_or new k d) within was
+  | inr is ↦ subst (All (λ n. n < count)) (sym is) (reads_within es count places key reads)
+]

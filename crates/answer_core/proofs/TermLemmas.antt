@@ -1,12 +1,13 @@
 -- Terms of a layout by their numbers.
-use Rattle.std.proofs.Common.{◌≡◌, ℕ, ◌<◌, inl, inr, List, [], ◌∷◌, ◌++◌, length, get_or, All, Contains, slice_get, Some, subst, sym}
+use Rattle.std.proofs.Common.{◌≡◌, ℕ, ◌<◌, List, [], ◌∷◌, length, get_or, All, Contains, slice_get, Some, subst, sym}
 use Rattle.std.specs.List.{AllZip}
-use Rattle.std.proofs.lemmas.List.Elements.{All-cons, All-nil, Contains-append_left, Contains-push, Contains-push_cases}
+use Rattle.std.proofs.lemmas.List.Elements.{All-cons, All-nil}
 use Rattle.std.proofs.lemmas.Option.{slice_get_within}
 use Rattle.dl_base.specs.Query.{Question, IsQuery, terms}
 use Rattle.dl_base.specs.declared.query.Term.{Term}
 use Rattle.dl_base.specs.declared.query.Term.TheVariants as term
-use Rattle.query_shape.specs.Shape.{Occur, no_term, known_term, new_term}
+use Rattle.query_shape.specs.Shape.{Occur}
+use Rattle.query_shape.proofs.NumberingLemmas.{occur_into}
 use Rattle.answer_core.specs.Binding.{IsKnownTerm}
 use Rattle.answer_core.proofs.ListLemmas.{at_place}
 
@@ -17,22 +18,10 @@ AllBefore P ts n = (k : ℕ) (t : Term) → k < n → slice_get ts k ≡ Some t 
 pub known_names : (names : List (List ℕ)) (ts : List Term) → AllBefore (IsKnownTerm names) ts (length ts) → (a : List ℕ) → Contains ts (term.Named a) → Contains names a
 known_names names ts all a there = let place = at_place ts (term.Named a) there in all place.0 (term.Named a) place.1 place.2
 
--- the distinct terms are those that occur
-pub occur_each : {all distinct : List Term} → Occur all distinct → (t : Term) → Contains all t → Contains distinct t
-occur_each no_term t c = c
-occur_each (known_term {all = all} {distinct = distinct} s before there) t c = elim (Contains-push_cases all s t c) [
-  | inl d ↦ occur_each before t d
-  | inr e ↦ subst (Contains distinct) e there
-]
-occur_each (new_term {all = all} {distinct = distinct} s before new) t c = elim (Contains-push_cases all s t c) [
-  | inl d ↦ Contains-append_left distinct (s ∷ []) t (occur_each before t d)
-  | inr e ↦ subst (Contains (distinct ++ s ∷ [])) e (Contains-push distinct s)
-]
-
 -- each answer variable has a number
 pub answers_occur : (q : Question) (ts : List Term) → IsQuery q → Occur (terms q) ts → (vs : List (List ℕ)) → vs ≡ q.answers → All (λ v. Contains ts (term.Var v)) vs
 answers_occur q ts query occur vs is k d below =
-    occur_each occur (term.Var (get_or vs k d)) (subst (λ (names : List (List ℕ)). All (λ v. Contains (terms q) (term.Var v)) names) (sym is) query.safe k d below)
+    occur_into occur (term.Var (get_or vs k d)) (subst (λ (names : List (List ℕ)). All (λ v. Contains (terms q) (term.Var v)) names) (sym is) query.safe k d below)
 
 -- the numbers are of terms
 pub numbers_within : (ts : List Term) (vs : List (List ℕ)) (ns : List ℕ) → AllZip (λ v n. slice_get ts n ≡ Some (term.Var v)) vs ns → All (λ n. n < length ts) ns

@@ -1,12 +1,17 @@
 -- Keys by the numbers of their individuals.
-use Rattle.std.specs.Prelude.{◌≡◌, ◌⊎◌, ◌↔◌, ◌<◌, ℕ, List, Option, Some, slice_get, Contains}
+use Rattle.std.specs.Prelude.{◌≡◌, ◌≢◌, ◌⊎◌, ◌↔◌, ◌<◌, ℕ, List, Option, Some, slice_get, All, AllPairs, Contains}
 use Rattle.std.specs.List.{AllZip}
 use Rattle.std.specs.List.Sorted.{IsStrictlySortedBy}
+use Rattle.dl_base.specs.Ontology.{Terminology}
 use Rattle.dl_base.specs.Answers.{key_cmp}
+use Rattle.dl_base.specs.Completion.{AreCompleted}
 use Rattle.dl_base.specs.Tables.{TableRow}
+use Rattle.dl_base.specs.declared.concept.Role.{Role}
 use Rattle.dl_base.specs.declared.element.Elem.{Elem}
 use Rattle.dl_base.specs.declared.element.Elem.TheVariants as elem
-use Rattle.query_shape.specs.Shape.{IsShapeMatch}
+use Rattle.dl_base.specs.declared.row.NamedRow.{NamedRow}
+use Rattle.query_shape.specs.Shape.{Layout, IsShapeMatch}
+use Rattle.query_shape.specs.Lifting.{LiftsShape}
 use Rattle.join_ops.specs.Joins.{IsFixed}
 use Rattle.answer_core.specs.Binding.{BoundQuery}
 
@@ -22,12 +27,30 @@ Stands images count p n = (slice_get images p ≡ Some (elem.Named n)) × (n < c
 abbrev pub AllStand : List Elem → List ℕ → ℕ → List ℕ → Type 0
 AllStand images places count numbers = AllZip (Stands images count) places numbers
 
--- some match that places the fixed terms so has these individuals at the answer places
-pub record IsFoundKey (table : List TableRow) (b : BoundQuery) (fixed : List (Option ℕ)) (count : ℕ) (numbers : List ℕ) : Type 0 where
+-- the table is the completed one of this base, whose individuals have distinct names
+pub record IsTableOf (o : Terminology) (rows : List NamedRow) (names : List (List ℕ)) (generation : Role → ℕ) (table : List TableRow) : Type 0 where
+  pub distinct : AllPairs (λ x y. x ≢ y) names
+  pub completed : AreCompleted o rows names generation table
+
+-- some match that lifts and places the fixed terms so has these individuals at the answer places
+pub record IsFoundKey (o : Terminology) (rows : List NamedRow) (names : List (List ℕ)) (generation : Role → ℕ) (table : List TableRow) (b : BoundQuery) (fixed : List (Option ℕ)) (count : ℕ)
+    (numbers : List ℕ) : Type 0 where
   pub images : List Elem
   pub match_is : IsShapeMatch table b.shape images
+  pub lifts : LiftsShape o rows names generation b.shape images
   pub fixed_are : IsFixed fixed images
   pub reads : AllStand images b.answers count numbers
+
+-- The keys are those that were there and, where the images lift, the one that they have at the places. It is said of each base in
+-- whose completed table the images are a match.
+abbrev pub AddsLifted : Layout → List Elem → List ℕ → ℕ → List (List ℕ) → List (List ℕ) → Type 0
+AddsLifted s images places count old new = (o : Terminology) (rows : List NamedRow) (names : List (List ℕ)) (generation : Role → ℕ) (table : List TableRow)
+    → IsTableOf o rows names generation table → IsShapeMatch table s images
+    → (numbers : List ℕ) → Contains new numbers ↔ (Contains old numbers ⊎ (LiftsShape o rows names generation s images × AllStand images places count numbers))
+
+-- all numbers of these keys are below the count
+abbrev pub AreWithin : ℕ → List (List ℕ) → Type 0
+AreWithin count = All (All (λ n. n < count))
 
 -- one more key, which is one of them however often it was there
 abbrev pub AddsKey : {X : Type 0} → List X → X → List X → Type 0

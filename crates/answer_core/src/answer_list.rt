@@ -8,22 +8,20 @@ ghost use Rattle.dl_base.specs.Completion.{AreCompleted};
 ghost use Rattle.dl_base.specs.declared.concept.Role.{Role as AnyRole};
 ghost use Rattle.dl_base.specs.declared.row.NamedRow.{NamedRow as AnyRow};
 ghost use Rattle.query_shape.specs.Shape.{IsLayout};
-ghost use Rattle.answer_core.specs.AnswerLaws.{HasNoSuccessorHead};
 ghost use Rattle.answer_core.specs.Binding.{IsBoundTo};
-ghost use Rattle.answer_core.specs.Found.{IsFoundKey, IsOf, AllStand};
-ghost use Rattle.answer_core.specs.Keys.{AreKeys};
+ghost use Rattle.answer_core.specs.Found.{AddsLifted, AllStand, AreWithin, IsFoundKey, IsOf, IsTableOf};
 
 use crate::bound::Bound;
 use crate::fixed::{fixed_numbers, has_names};
 use crate::number_keys::NumberKeys;
 use dl_base::{Elem, Items, Keys, NameBook, Tables};
 use join_ops::Matches;
+use match_filter::lifts;
 use query_shape::Shape;
 use std::alloc::{AllocError, Global};
 
-/// The keys of the matches that have individuals of the book at the answer places and each name of the query on its own
-/// individual, in order, each once. In completed tables of an ontology in which no inclusion says that something has a
-/// successor these are the certain answers.
+/// The certain answers, in order, each once: the keys of the matches in completed tables that lift, have individuals of
+/// the book at the answer places, and have each name of the query on its own individual.
 ///
 /// It takes memory for the keys, and none for further matches of a key.
 pub fn answers<T: Tables>(
@@ -32,10 +30,8 @@ pub fn answers<T: Tables>(
     individuals: &NameBook,
     b: &Bound,
 ) -> Result<Keys, AllocError>
-    ensures keys { (o : Terminology) (q : Question) → IsTerminology o → IsQuery q → IsBoundTo o q b.now
-        → IfOk result (AreKeys o (T.rows t.now) individuals.now q) }
-    ensures certain { (o : Terminology) (rows : List AnyRow) (generation : AnyRole → ℕ) (q : Question)
-        → IsTerminology o → IsQuery q → IsBoundTo o q b.now → HasNoSuccessorHead o
+    ensures { (o : Terminology) (rows : List AnyRow) (generation : AnyRole → ℕ) (q : Question)
+        → IsTerminology o → IsQuery q → IsBoundTo o q b.now
         → AreCompleted o rows individuals.now generation (T.rows t.now) → IfOk result (AreAnswers o rows q) }
 {
     if !has_names(individuals, &b.shape) {
@@ -53,8 +49,8 @@ pub fn answers<T: Tables>(
     found.spelled(alloc, individuals)
 }
 
-/// The keys by number, at the places, of the matches that place the fixed terms so, over individuals whose numbers are
-/// below `count`.
+/// The keys by number, at the places, of the matches that lift and place the fixed terms so, over individuals whose numbers
+/// are below `count`.
 fn found_keys<T: Tables>(
     alloc: Global,
     t: &T,
@@ -66,8 +62,11 @@ fn found_keys<T: Tables>(
     requires layout { IsLayout shape.now }
     requires places { All (λ p. p < length shape.now.terms) places.now }
     requires fixed { length fixed.now ≡ length shape.now.terms }
-    ensures { IfOk result (λ found. (numbers : List ℕ) → Contains found numbers
-        ↔ IsFoundKey (T.rows t.now) (record { shape = shape.now; answers = places.now }) fixed.now count numbers) }
+    ensures within { IfOk result (AreWithin count) }
+    ensures lifted { (o : Terminology) (rows : List AnyRow) (names : List (List ℕ)) (generation : AnyRole → ℕ)
+        → IsTableOf o rows names generation (T.rows t.now)
+        → IfOk result (λ found. (numbers : List ℕ) → Contains found numbers
+        ↔ IsFoundKey o rows names generation (T.rows t.now) (record { shape = shape.now; answers = places.now }) fixed.now count numbers) }
 {
     let mut key = vec![in alloc; 0u32; places.len()]?;
     let mut found = NumberKeys::new(alloc);
@@ -76,6 +75,7 @@ fn found_keys<T: Tables>(
         add_key(
             alloc,
             &mut found,
+            shape,
             matches.images(),
             places,
             count,
@@ -85,21 +85,24 @@ fn found_keys<T: Tables>(
     Ok(found)
 }
 
-/// Adds the key that the match has at the places, where all of it are individuals whose numbers are below `count`.
-/// `key` is where it is read into.
+/// Adds the key that the match has at the places, where all of it are individuals whose numbers are below `count` and the
+/// match lifts. `key` is where it is read into.
 fn add_key(
     alloc: Global,
     found: &mut NumberKeys,
+    shape: &Shape,
     images: &[Elem],
     places: &[u32],
     count: usize,
     key: &mut [u32],
 ) -> Result<(), AllocError>
+    requires images { length images.now ≡ length shape.now.terms }
     requires places { All (λ p. p < length images.now) places.now }
     requires room { length key.old ≡ length places.now }
-    ensures { OnOk result ((numbers : List ℕ) → Contains found.new numbers ↔ (Contains found.old numbers ⊎ AllStand images.now places.now count numbers)) }
+    ensures lifted { OnOk result (AddsLifted shape.now images.now places.now count found.old found.new) }
+    ensures within { AreWithin count found.old → OnOk result (AreWithin count found.new) }
 {
-    if read_key(images, places, count, key) {
+    if read_key(images, places, count, key) && lifts(shape, images) {
         found.add(alloc, key)?;
     }
     Ok(())

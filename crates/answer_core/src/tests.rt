@@ -2,9 +2,12 @@
 
 use super::*;
 use cq_reader::read_query;
-use dl_base::{Axiom, Items, Key, Keys, Name, NameBook, Names, Ontology, Row};
-use plain_tables::PlainTables;
+use dl_base::{
+    Axiom, Elem, Items, Key, Keys, Name, NameBook, Names, Ontology, Role, Tables, Witness,
+};
+use listed_tables::{ListedRow, ListedTables};
 use std::alloc::{AllocError, Global};
+use std::process::Abort;
 use std::test::Fail;
 
 /// The individuals in the order of their numbers.
@@ -31,18 +34,55 @@ const ANSWERS: [(&[u8], &[u8]); 12] = [
     (b"q(?y) :- s(?x, ?y)", b"a,;"),
 ];
 
-fn tables(alloc: Global) -> Result<PlainTables, AllocError> {
-    let mut rows = Items::new(alloc);
+/// Whatever is in A has a successor by r, and whatever r leads to has one by s. All three are in A, and r leads from c to a.
+const SUCCESSORS: &[u8] = b"Aa.Ab.Ac.raR.rbR.rca.sRS.saS.";
+
+const BY_SUCCESSORS: [(&[u8], &[u8]); 9] = [
+    (b"q(?x, ?y) :- r(?x, ?z), r(?y, ?z)", b"a,a,;b,b,;c,c,;"),
+    (b"q(?x) :- r(?x, ?z)", b"a,;b,;c,;"),
+    (b"q(?z) :- r(?x, ?z)", b"a,;"),
+    (
+        b"q(?x, ?y) :- r(?x, ?u), s(?u, ?v), s(?w, ?v), r(?y, ?w)",
+        b"a,a,;b,b,;c,c,;",
+    ),
+    (b"q(?y) :- r(c, ?y)", b"a,;"),
+    (b"q(?y) :- r(?y, ?z), r(a, ?z)", b"a,;"),
+    (b"q() :- s(?x, ?y), s(?y, ?z)", b""),
+    (b"q() :- s(?y, ?z), r(?x, ?y), A(?x)", b";"),
+    (b"q(?x) :- s(?x, ?y)", b"a,;"),
+];
+
+/// Whatever is in A has a successor by r, and so has whatever r leads to. a is in A.
+const REPEATED: &[u8] = b"Aa.raR.rRR.";
+
+const BY_REPEATED: [(&[u8], &[u8]); 6] = [
+    (b"q() :- r(?x, ?x)", b""),
+    (b"q() :- r(?x, ?y), r(?y, ?z), r(?z, ?u)", b";"),
+    (b"q() :- r(?y, ?v), r(?z, ?v), r(?z, ?y)", b""),
+    (b"q(?x) :- r(?x, ?z), r(?y, ?z), A(?x), A(?y)", b"a,;"),
+    (
+        b"q(?a) :- r(?a, ?b), r(?b, ?c), r(?c, ?d), r(?d, ?e), r(?e, ?f), r(?f, ?g), r(?g, ?h), r(?h, ?i), r(?i, ?j), r(?j, ?k), r(?k, ?l), r(?l, ?m), r(?n, ?m), r(?o, ?n), r(?p, ?o), r(?q, ?p), r(?r, ?q), r(?s, ?r), r(?t, ?s), r(?u, ?t), r(?v, ?u), r(?w, ?v), r(?x, ?w), r(?a, ?x)",
+        b"a,;",
+    ),
+    (b"q() :- A(?x), r(?y, ?x)", b""),
+];
+
+fn tables(alloc: Global) -> Result<ListedTables, AllocError> {
+    let mut rows = Vec::new(alloc);
     for (concept, individual) in CONCEPTS {
-        rows.push(Row::Concept {
+        rows.push(ListedRow::Concept {
             concept,
-            individual,
+            element: Elem::Named(individual),
         })?;
     }
     for (role, from, to) in ROLES {
-        rows.push(Row::Role { role, from, to })?;
+        rows.push(ListedRow::Role {
+            role,
+            from: Elem::Named(from),
+            to: Elem::Named(to),
+        })?;
     }
-    PlainTables::new(alloc, rows)
+    Ok(ListedTables::new(rows))
 }
 
 fn names(alloc: Global, first: &[u8], second: &[u8]) -> Result<Names, Fail> {
@@ -94,9 +134,9 @@ fn text_of(alloc: Global, keys: &Keys) -> Result<Vec<u8>, AllocError> {
 }
 
 /// The keys of a query in the tables.
-fn reply(
+fn reply<T: Tables>(
     alloc: Global,
-    t: &PlainTables,
+    t: &T,
     o: &Ontology,
     book: &NameBook,
     text: &[u8],
@@ -107,14 +147,91 @@ fn reply(
     Ok(text_of(alloc, &keys)?)
 }
 
+fn assert_answers<T: Tables>(
+    alloc: Global,
+    rt: &impl Abort,
+    t: &T,
+    cases: &[(&[u8], &[u8])],
+) -> Result<(), Fail> {
+    let o = ontology(alloc)?;
+    let book = individuals(alloc)?;
+    for (text, wanted) in cases {
+        let keys = reply(alloc, t, &o, &book, text)?;
+        assert_eq!(rt; keys.as_slice(), *wanted, "at {text:?}");
+    }
+    Ok(())
+}
+
+/// An individual, or the witness of r or s.
+fn element(letter: u8) -> Elem {
+    match letter {
+        b'c' => Elem::Named(0),
+        b'a' => Elem::Named(1),
+        b'b' => Elem::Named(2),
+        _ => Elem::Shared(Witness {
+            role: Role {
+                name: place(letter),
+                inverse: false,
+            },
+            generation: 1,
+        }),
+    }
+}
+
+fn place(letter: u8) -> u32 {
+    if letter == b's' || letter == b'S' {
+        1
+    } else {
+        0
+    }
+}
+
+/// The row that two or three letters spell.
+fn row_of(letters: &[u8]) -> Option<ListedRow> {
+    match letters.len() {
+        2 => Some(ListedRow::Concept {
+            concept: 0,
+            element: element(letters[1]),
+        }),
+        3 => Some(ListedRow::Role {
+            role: place(letters[0]),
+            from: element(letters[1]),
+            to: element(letters[2]),
+        }),
+        _ => None,
+    }
+}
+
+fn listed(alloc: Global, text: &[u8]) -> Result<ListedTables, AllocError> {
+    let mut rows = Vec::new(alloc);
+    let mut start = 0;
+    for i in 0..text.len() {
+        if text[i] == b'.' {
+            if start <= i {
+                if let Some(row) = row_of(&text[start..i]) {
+                    rows.push(row)?;
+                }
+            }
+            start = i + 1;
+        }
+    }
+    Ok(ListedTables::new(rows))
+}
+
 #[test]
 fn each_key_once_in_order(rt: HostRuntime) -> Result<(), Fail> {
     let t = tables(rt.alloc())?;
-    let o = ontology(rt.alloc())?;
-    let book = individuals(rt.alloc())?;
-    for (text, wanted) in ANSWERS {
-        let keys = reply(rt.alloc(), &t, &o, &book, text)?;
-        assert_eq!(rt; keys.as_slice(), wanted, "at {text:?}");
-    }
-    Ok(())
+    assert_answers(rt.alloc(), &rt, &t, &ANSWERS)
+}
+
+#[test]
+fn witnesses_serve_and_do_not_join(rt: HostRuntime) -> Result<(), Fail> {
+    let t = listed(rt.alloc(), SUCCESSORS)?;
+    assert_answers(rt.alloc(), &rt, &t, &BY_SUCCESSORS)
+}
+
+#[test]
+fn no_loop_through_a_witness(rt: HostRuntime) -> Result<(), Fail> {
+    let t = listed(rt.alloc(), REPEATED)?;
+    assert_answers(rt.alloc(), &rt, &t, &BY_REPEATED)
 }

@@ -1,3 +1,4 @@
 pub mod NumberingLemmas
 pub mod MatchLemmas
 pub mod MatchList
+pub mod LiftLemmas

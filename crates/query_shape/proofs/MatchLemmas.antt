@@ -25,10 +25,10 @@ use Rattle.dl_base.proofs.PlaceLemmas.{one_place, zip_left, zip_right, distinct_
 
 -- ---- rows at the images of terms
 
-image_at : (place : Term → Elem) (ts : List Term) (n : ℕ) (t : Term) → slice_get ts n ≡ Some t → slice_get (map place ts) n ≡ Some (place t)
+pub image_at : (place : Term → Elem) (ts : List Term) (n : ℕ) (t : Term) → slice_get ts n ≡ Some t → slice_get (map place ts) n ≡ Some (place t)
 image_at place ts n t at = slice_get-map place ts n ∙ ap (option_map place) at
 
-image_is : (place : Term → Elem) (ts : List Term) (n : ℕ) (t : Term) (e : Elem) → slice_get ts n ≡ Some t → slice_get (map place ts) n ≡ Some e → e ≡ place t
+pub image_is : (place : Term → Elem) (ts : List Term) (n : ℕ) (t : Term) (e : Elem) → slice_get ts n ≡ Some t → slice_get (map place ts) n ≡ Some e → e ≡ place t
 image_is place ts n t e at image = same_Some e (place t) (sym image ∙ image_at place ts n t at)
 
 module _ (o : Terminology) (table : List TableRow) (place : Term → Elem) (ts : List Term) (concepts : AllPairs (λ x y. x ≢ y) o.concepts) (roles : AllPairs (λ x y. x ≢ y) o.roles) where
@@ -67,18 +67,18 @@ same_matches o table q s place concepts roles is = (into, back)
 
 -- ---- placings
 
-same_term : Term → Term → Bool
+pub same_term : Term → Term → Bool
 same_term (term.Var a) (term.Var b) = bytes_eq a b
 same_term (term.Named a) (term.Named b) = bytes_eq a b
 same_term (term.Var a) (term.Named b) = false
 same_term (term.Named a) (term.Var b) = false
 
-same_itself : (t : Term) → same_term t t ≡ true
+pub same_itself : (t : Term) → same_term t t ≡ true
 unfolding same_term
 same_itself (term.Var a) = (bytes_eq-Decides a a).1 refl
 same_itself (term.Named a) = (bytes_eq-Decides a a).1 refl
 
-same_is : (t u : Term) → same_term t u ≡ true → t ≡ u
+pub same_is : (t u : Term) → same_term t u ≡ true → t ≡ u
 unfolding same_term
 same_is (term.Var a) (term.Var b) e = ap term.Var ((bytes_eq-Decides a b).0 e)
 same_is (term.Named a) (term.Named b) e = ap term.Named ((bytes_eq-Decides a b).0 e)

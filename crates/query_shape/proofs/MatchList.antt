@@ -1,24 +1,19 @@
--- The matches of a layout in a table are a finite list, in order.
-use Rattle.std.proofs.Common.{◌≡◌, ℕ, zero, suc, ◌<◌, ◌⊎◌, inl, inr, Bool, true, false, List, [], ◌∷◌, length, map, Option, Some, None, slice_get, Contains, refl, sym, ◌∙◌, ap, subst, arith, true≢false}
-use Rattle.std.specs.Prelude.{◌↔◌, flat_map}
+-- What can be decided of elements, lists, rows and matches.
+use Rattle.std.proofs.Common.{◌≡◌, ℕ, zero, suc, ◌⊎◌, inl, inr, Bool, true, false, List, [], ◌∷◌, Option, Some, None, slice_get, Contains, refl, sym, ◌∙◌, ap, subst, arith, true≢false}
 use Rattle.std.specs.Cmp.{IsTotalOrder}
-use Rattle.std.specs.Cmp.Lexicographic.{slice_cmp}
-use Rattle.std.specs.List.Sorted.{IsStrictlySortedBy}
 use Rattle.std.specs.declared.cmp.Ordering.{Ordering}
 use Rattle.std.specs.declared.cmp.Ordering.TheVariants.{Less, Equal, Greater}
 use Rattle.std.specs.Ordering.{nat_cmp}
-use Rattle.std.proofs.lemmas.Cmp.{nat_cmp_total, lists_total, tied_itself}
+use Rattle.std.proofs.lemmas.Cmp.{nat_cmp_total, tied_itself}
 use Rattle.std.proofs.lemmas.Option.{same_Some}
-use Rattle.dl_base.specs.Tables.{TableRow, ConceptRow, RoleRow, edge_row, turned_row, elem_cmp}
+use Rattle.dl_base.specs.Tables.{TableRow, ConceptRow, RoleRow, edge_row, elem_cmp}
 use Rattle.dl_base.specs.declared.element.Elem.{Elem}
 use Rattle.dl_base.specs.declared.element.Elem.TheVariants as elem
 use Rattle.dl_base.proofs.ElemLemmas.{elem_total, elem_same}
-use Rattle.dl_base.proofs.RisingLemmas.{Adds, contains_cases, contains_later, contains_first, placed, placed_rises, placed_adds, slice_same, nat_same}
-use Rattle.dl_base.proofs.RowLemmas.{none_rising}
-use Rattle.query_shape.specs.Shape.{Layout, IsLayout, IsShapeMatch, IsTermOf, HoldsAt}
+use Rattle.dl_base.proofs.RisingLemmas.{contains_cases, contains_later, contains_first, nat_same}
+use Rattle.query_shape.specs.Shape.{HoldsAt}
 use Rattle.query_shape.specs.declared.layout.ShapeAtom.{ShapeAtom}
 use Rattle.query_shape.specs.declared.layout.ShapeAtom.TheVariants as shape
-use Rattle.dl_base.proofs.PlaceLemmas.{place_of, map_contains, flat_there}
 
 -- ---- what can be decided
 
@@ -56,15 +51,6 @@ decide_nat = decide_same nat_cmp nat_cmp_total nat_same
 
 pub decide_elem : (e f : Elem) → Decided (e ≡ f)
 decide_elem = decide_same elem_cmp elem_total elem_same
-
--- images are in front of others in their order, or not
-pub decide_less : (images others : List Elem) → Decided (slice_cmp elem_cmp images others ≡ Less)
-decide_less images others = by (slice_cmp elem_cmp images others)
-  where
-    by : (r : Ordering) → Decided (r ≡ Less)
-    by Less = inl refl
-    by Equal = inr (λ e. cc)
-    by Greater = inr (λ e. cc)
 
 pub decide_member : {X : Type 0} → ((x y : X) → Decided (x ≡ y)) → (xs : List X) (x : X) → Decided (Contains xs x)
 decide_member same [] x = inr (λ c. absurd (omega (arith, c.1)))
@@ -154,153 +140,3 @@ pub decide_stand : (fixed : List (Option ℕ)) (images : List Elem) → Decided 
 decide_stand [] images = inl (λ k n e. absurd cc)
 decide_stand (o ∷ rest) [] = decide_more o rest [] [] (λ k. refl) (decide_stand rest [])
 decide_stand (o ∷ rest) (e ∷ es) = decide_more o rest (e ∷ es) es (λ k. refl) (decide_stand rest es)
-
--- ---- candidates
-
--- every list of so many of these
-abbrev choices : ℕ → List Elem → List (List Elem)
-choices zero es = [] ∷ []
-choices (suc n) es = flat_map (λ chosen. map (λ e. e ∷ chosen) es) (choices n es)
-
-each_choice : (n : ℕ) (es chosen : List Elem) → length chosen ≡ n → ((e : Elem) → Contains chosen e → Contains es e) → Contains (choices n es) chosen
-each_choice zero es [] same from = (0, omega arith, refl)
-each_choice zero es (e ∷ chosen) same from = absurd (omega arith)
-each_choice (suc n) es [] same from = absurd (omega arith)
-each_choice (suc n) es (e ∷ chosen) same from =
-    flat_there (λ others. map (λ f. f ∷ others) es) (choices n es) chosen (e ∷ chosen)
-    (each_choice n es chosen (omega arith) (λ f c. from f (contains_later e chosen f c)))
-    (map_contains (λ f. f ∷ chosen) es e (from e (contains_first e chosen)))
-
--- the elements that stand in rows
-abbrev stand_in : TableRow → List Elem
-stand_in (ConceptRow c e) = e ∷ []
-stand_in (RoleRow p e f) = e ∷ f ∷ []
-
-in_table : (table : List TableRow) (row : TableRow) (e : Elem) → Contains table row → Contains (stand_in row) e → Contains (flat_map stand_in table) e
-in_table table row e there at = flat_there stand_in table row e there at
-
-edge_from : (b : Bool) (p : ℕ) (e f : Elem) → Contains (stand_in (turned_row b p e f)) e
-edge_from false p e f = (0, omega arith, refl)
-edge_from true p e f = (1, omega arith, refl)
-
-edge_to : (b : Bool) (p : ℕ) (e f : Elem) → Contains (stand_in (turned_row b p e f)) f
-edge_to false p e f = (1, omega arith, refl)
-edge_to true p e f = (0, omega arith, refl)
-
--- the image of a term of an atom that holds stands in a row
-image_in : (table : List TableRow) (images : List Elem) (a : ShapeAtom) (k : ℕ) (e : Elem) → IsTermOf k a → HoldsAt table images a → slice_get images k ≡ Some e → Contains (flat_map stand_in table) e
-image_in table images (shape.Concept c n) k e is (x, at, row) image =
-    let same : x ≡ e = same_Some x e (sym at ∙ (ap (slice_get images) (sym is) ∙ image)) in
-    subst (λ (y : Elem). Contains (flat_map stand_in table) y) same (in_table table (ConceptRow c x) x row (0, omega arith, refl))
-image_in table images (shape.Role r n m) k e (inl is) (x, y, from, to, row) image =
-    let same : x ≡ e = same_Some x e (sym from ∙ (ap (slice_get images) (sym is) ∙ image)) in
-    subst (λ (z : Elem). Contains (flat_map stand_in table) z) same (in_table table (edge_row r x y) x row (edge_from r.inverse r.name x y))
-image_in table images (shape.Role r n m) k e (inr is) (x, y, from, to, row) image =
-    let same : y ≡ e = same_Some y e (sym to ∙ (ap (slice_get images) (sym is) ∙ image)) in
-    subst (λ (z : Elem). Contains (flat_map stand_in table) z) same (in_table table (edge_row r x y) y row (edge_to r.inverse r.name x y))
-
--- ---- the members that have a property, in order
-
-pub record AreRisen {X : Type 0} (cmp : X → X → Ordering) (P : X → Type 0) (ys : List X) : Type 0 where
-  pub rising : IsStrictlySortedBy cmp ys
-  pub each : (x : X) → Contains ys x ↔ P x
-
-module _ {X : Type 0} (cmp : X → X → Ordering) (total : IsTotalOrder cmp) (same : (x y : X) → cmp x y ≡ Equal → x ≡ y) (P : X → Type 0) (decide : (x : X) → Decided (P x)) where
-  risen : (xs : List X) → (ys : List X) × AreRisen cmp (λ x. Contains xs x × P x) ys
-  risen [] = ([], record { rising = none_rising cmp; each = λ x. (λ c. absurd (omega (arith, c.1)), λ both. both.0) })
-  risen (x ∷ xs) = by (decide x) (risen xs)
-    where
-      front : (ys : List X) → AreRisen cmp (λ z. Contains xs z × P z) ys → P x → Adds x ys (placed cmp total same x ys) → (z : X) → (z ≡ x) ⊎ Contains ys z → Contains (x ∷ xs) z × P z
-      front ys are p adds z (inl e) = (subst (λ (w : X). Contains (x ∷ xs) w) (sym e) (contains_first x xs), subst P (sym e) p)
-      front ys are p adds z (inr d) = let both = (are.each z).0 d in (contains_later x xs z both.0, both.1)
-
-      back : (ys : List X) → AreRisen cmp (λ z. Contains xs z × P z) ys → Adds x ys (placed cmp total same x ys) → (z : X) → P z → (z ≡ x) ⊎ Contains xs z → Contains (placed cmp total same x ys) z
-      back ys are adds z q (inl e) = subst (λ (w : X). Contains (placed cmp total same x ys) w) (sym e) adds.there
-      back ys are adds z q (inr d) = adds.stays z ((are.each z).1 (d, q))
-
-      others : (ys : List X) → AreRisen cmp (λ z. Contains xs z × P z) ys → (P x → ⊥) → (z : X) → P z → (z ≡ x) ⊎ Contains xs z → Contains ys z
-      others ys are fails z q (inl e) = absurd (fails (subst P e q))
-      others ys are fails z q (inr d) = (are.each z).1 (d, q)
-
-      by : Decided (P x) → (ys : List X) × AreRisen cmp (λ z. Contains xs z × P z) ys → (ys : List X) × AreRisen cmp (λ z. Contains (x ∷ xs) z × P z) ys
-      by (inl p) (ys, are) =
-          let adds : Adds x ys (placed cmp total same x ys) = placed_adds cmp total same x ys in (
-            placed cmp total same x ys,
-            record {
-              rising = placed_rises cmp total same x ys are.rising;
-              each = λ z. (λ c. front ys are p adds z (adds.each z c), λ both. back ys are adds z both.1 (contains_cases x xs z both.0));
-            },
-          )
-      by (inr fails) (ys, are) = (
-        ys,
-        record {
-          rising = are.rising;
-          each = λ z. (λ c. let both = (are.each z).0 c in (contains_later x xs z both.0, both.1), λ both. others ys are fails z both.1 (contains_cases x xs z both.0));
-        },
-      )
-
-images_total : IsTotalOrder (slice_cmp elem_cmp)
-images_total = lists_total elem_total
-
-images_same : (xs ys : List Elem) → slice_cmp elem_cmp xs ys ≡ Equal → xs ≡ ys
-images_same = slice_same elem_cmp elem_same
-
--- so many images at which the atoms hold
-pub record HoldAll (table : List TableRow) (atoms : List ShapeAtom) (count : ℕ) (images : List Elem) : Type 0 where
-  pub length_is : length images ≡ count
-  pub each : (a : ShapeAtom) → Contains atoms a → HoldsAt table images a
-
--- Where each term is in some atom, the images at which all atoms hold and that have a property that can be decided are a list
--- in their order.
-module _ (table : List TableRow) (atoms : List ShapeAtom) (count : ℕ) (used : (k : ℕ) → k < count → (a : ShapeAtom) × Contains atoms a × IsTermOf k a)
-    (P : List Elem → Type 0) (decide : (images : List Elem) → Decided (P images)) where
-  all_in : (images : List Elem) → HoldAll table atoms count images → (e : Elem) → Contains images e → Contains (flat_map stand_in table) e
-  all_in images holds e c =
-      let of = used c.0 (omega (arith, c.1, holds.length_is)) in
-      image_in table images of.0 c.0 e of.2 (holds.each of.0 of.1) (place_of images e c)
-
-  decide_found : (images : List Elem) → Decided (HoldAll table atoms count images × P images)
-  decide_found images =
-      decide_both
-      (decide_as (λ both. record { length_is = both.0; each = both.1 }) (λ holds. (holds.length_is, holds.each))
-      (decide_both (decide_nat (length images) count) (decide_each (HoldsAt table images) (decide_holds table images) atoms)))
-      (decide images)
-
-  pub found_listed : (list : List (List Elem)) × AreRisen (slice_cmp elem_cmp) (λ images. HoldAll table atoms count images × P images) list
-  found_listed = by (risen (slice_cmp elem_cmp) images_total images_same (λ images. HoldAll table atoms count images × P images) decide_found (choices count (flat_map stand_in table)))
-    where
-      by : (list : List (List Elem)) × AreRisen (slice_cmp elem_cmp) (λ images. Contains (choices count (flat_map stand_in table)) images × (HoldAll table atoms count images × P images)) list
-          → (list : List (List Elem)) × AreRisen (slice_cmp elem_cmp) (λ images. HoldAll table atoms count images × P images) list
-      by (list, are) = (
-        list,
-        record {
-          rising = are.rising;
-          each = λ images. (
-            λ c. ((are.each images).0 c).1,
-            λ both. (are.each images).1 (each_choice count (flat_map stand_in table) images both.0.length_is (all_in images both.0), both),
-          );
-        },
-      )
-
--- the matches of a layout that have a property that can be decided
-pub matches_listed : (table : List TableRow) (s : Layout) → IsLayout s → (P : List Elem → Type 0) → ((images : List Elem) → Decided (P images))
-    → (list : List (List Elem)) × AreRisen (slice_cmp elem_cmp) (λ images. IsShapeMatch table s images × P images) list
-matches_listed table s layout P decide = by (found_listed table s.atoms (length s.terms) layout.used P decide)
-  where
-    by : (list : List (List Elem)) × AreRisen (slice_cmp elem_cmp) (λ images. HoldAll table s.atoms (length s.terms) images × P images) list
-        → (list : List (List Elem)) × AreRisen (slice_cmp elem_cmp) (λ images. IsShapeMatch table s images × P images) list
-    by (list, are) = (
-      list,
-      record {
-        rising = are.rising;
-        each = λ images. (
-          λ c. let both = (are.each images).0 c in (record { count = both.0.length_is; atoms = both.0.each }, both.1),
-          λ both. (are.each images).1 (record { length_is = both.0.count; each = both.0.atoms }, both.1),
-        );
-      },
-    )
-
--- the same by a test
-pub matches_tested : (table : List TableRow) (s : Layout) → IsLayout s → (test : List Elem → Bool)
-    → (list : List (List Elem)) × AreRisen (slice_cmp elem_cmp) (λ images. IsShapeMatch table s images × (test images ≡ true)) list
-matches_tested table s layout test = matches_listed table s layout (λ images. test images ≡ true) (λ images. decide_test (test images))

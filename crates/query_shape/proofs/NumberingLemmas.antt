@@ -139,6 +139,19 @@ occur_from (new_term {all = before} {distinct = kept} u o absent) t c = by (Cont
     by (inl d) rec = Contains-append_left before (u ∷ []) t (rec d)
     by (inr e) rec = subst (λ (v : Term). Contains (before ++ u ∷ []) v) e (Contains-push before u)
 
+pub occur_into : {all distinct : List Term} → Occur all distinct → (t : Term) → Contains all t → Contains distinct t
+occur_into no_term t c = c
+occur_into (known_term {all = before} {distinct = kept} u o there) t c = by (Contains-push_cases before u t c) (λ d. occur_into o t d)
+  where
+    by : Contains before t ⊎ (u ≡ t) → (Contains before t → Contains kept t) → Contains kept t
+    by (inl d) rec = rec d
+    by (inr e) rec = subst (λ (v : Term). Contains kept v) e there
+occur_into (new_term {all = before} {distinct = kept} u o absent) t c = by (Contains-push_cases before u t c) (λ d. occur_into o t d)
+  where
+    by : Contains before t ⊎ (u ≡ t) → (Contains before t → Contains kept t) → Contains (kept ++ u ∷ []) t
+    by (inl d) rec = Contains-append_left kept (u ∷ []) t (rec d)
+    by (inr e) rec = subst (λ (v : Term). Contains (kept ++ u ∷ []) v) e (Contains-push kept u)
+
 -- the terms of a layout are distinct
 pub occur_distinct : {all distinct : List Term} → Occur all distinct → AllPairs (λ t u. t ≢ u) distinct
 occur_distinct no_term = λ i j d lt below. absurd (omega (arith, below))

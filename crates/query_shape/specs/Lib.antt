@@ -1,4 +1,5 @@
 pub mod Shape
 pub mod ShapeFault
 pub mod Numbering
+pub mod Lifting
 pub mod ShapeLaws

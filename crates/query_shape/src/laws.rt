@@ -1,10 +1,15 @@
 //! Laws of shapes: public functions with no parameters, whose contracts are the laws.
-ghost use Rattle.query_shape.specs.ShapeLaws.{EachPlacing, SameMatches, ShapeOnce, XIsFirst};
+ghost use Rattle.query_shape.specs.ShapeLaws.{EachPlacing, SameLifting, SameMatches, ShapeOnce, XIsFirst};
 
 /// Where names are distinct, a placing of terms is a match of a query exactly where the images of its terms are a match
 /// of its shape.
 pub fn same_matches()
     ensures { SameMatches }
+{}
+
+/// Where names are distinct, a placing of terms lifts for a query exactly where the images of its terms lift for its shape.
+pub fn same_lifting()
+    ensures { SameLifting }
 {}
 
 /// As many images as there are distinct terms are the images of the terms by some placing.

@@ -1,9 +1,9 @@
-use Rattle.std.proofs.Common.{◌↔◌, ◌⊎◌, ◌<◌, ◌∙◌, sym, subst, length, List, ℕ, All, Contains}
+use Rattle.std.proofs.Common.{◌≡◌, ◌<◌, ◌∙◌, sym, subst, length, List, All}
 use Rattle.dl_base.specs.declared.element.Elem.{Elem}
 use Rattle.join_ops.specs.Joins.{IsNext}
 use Rattle.answer_core.specs.Binding.{BoundQuery}
-use Rattle.answer_core.specs.Found.{AllStand}
-use Rattle.answer_core.proofs.LoopLemmas.{found_none, next_falls, next_places, found_more, found_all}
+use Rattle.answer_core.specs.Found.{AddsLifted}
+use Rattle.answer_core.proofs.LoopLemmas.{found_none, next_match, next_falls, next_places, found_more, found_all}
 use Rattle.answer_core.proofs.answer_list.found_keys.Goals as goal
 
 pub matches-init : goal.matches-init
@@ -17,6 +17,13 @@ add_key-requires-clause-places g c =
     let next : IsNext (g.T.Tables.rows c.args.t.now) c.matches.invariant.1.left c.advance.new.self = c.matches-test.ensures c.matches.invariant.1.left c.matches.invariant.1.goes_on in
     subst (λ (images : List Elem). All (λ p. p < length images) c.args.places.now) (sym (c.images.ensures next.images next.stands))
     (next_places (g.T.Tables.rows c.args.t.now) b c.args.fixed.now c.args.count c.matches.matches c.matches.found c.matches.invariant.1 c.advance.new.self next c.requires.places)
+
+pub add_key-requires-clause-images : goal.add_key-requires-clause-images
+add_key-requires-clause-images g c =
+    let b : BoundQuery = record { shape = c.args.shape.now; answers = c.args.places.now } in
+    let next : IsNext (g.T.Tables.rows c.args.t.now) c.matches.invariant.1.left c.advance.new.self = c.matches-test.ensures c.matches.invariant.1.left c.matches.invariant.1.goes_on in
+    subst (λ (images : List Elem). length images ≡ length c.args.shape.now.terms) (sym (c.images.ensures next.images next.stands))
+    (next_match (g.T.Tables.rows c.args.t.now) b c.args.fixed.now c.args.count c.matches.matches c.matches.found c.matches.invariant.1 c.advance.new.self next).count
 
 pub add_key-requires-clause-room : goal.add_key-requires-clause-room
 add_key-requires-clause-room g c = c.as_mut_slice.ensures.len ∙ c.matches.invariant.0
@@ -33,12 +40,15 @@ matches-preserved g c =
     let next : IsNext (g.T.Tables.rows c.args.t.now) c.matches.invariant.1.left c.advance.new.self = c.matches-test.ensures c.matches.invariant.1.left c.matches.invariant.1.goes_on in (
       c.matches.invariant.0,
       found_more (g.T.Tables.rows c.args.t.now) b c.args.fixed.now c.args.count c.matches.matches c.matches.found c.matches.invariant.1 c.advance.new.self next c.add_key.new.found
-          (subst (λ (images : List Elem). (numbers : List ℕ) → Contains c.add_key.new.found numbers ↔ (Contains c.matches.found numbers ⊎ AllStand images c.args.places.now c.args.count numbers))
-          (c.images.ensures next.images next.stands) c.in_ok-add_key.ensures),
+          c.in_ok-add_key.ensures.within
+          (subst (λ (images : List Elem). AddsLifted c.args.shape.now images c.args.places.now c.args.count c.matches.found c.add_key.new.found) (c.images.ensures next.images next.stands) c.in_ok-add_key.ensures.lifted),
     )
 
-pub returns : goal.returns
-returns g c =
+pub returns-clause-within : goal.returns-clause-within
+returns-clause-within g c = c.matches.invariant.1.within
+
+pub returns-clause-lifted : goal.returns-clause-lifted
+returns-clause-lifted g c =
     let b : BoundQuery = record { shape = c.args.shape.now; answers = c.args.places.now } in
     found_all (g.T.Tables.rows c.args.t.now) b c.args.fixed.now c.args.count c.matches.matches c.matches.found c.matches.invariant.1
     (c.matches-test.ensures c.matches.invariant.1.left c.matches.invariant.1.goes_on).0

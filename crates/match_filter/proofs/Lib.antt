@@ -1,0 +1,11 @@
+pub mod LinkLemmas
+pub mod Leads
+pub mod Necessity
+pub mod Choices
+pub mod Nodes
+pub mod Standing
+pub mod Sufficiency
+pub mod Totals
+pub mod ClassLemmas
+pub mod GroundLemmas
+pub mod LiftingLemmas
