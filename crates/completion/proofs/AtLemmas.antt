@@ -13,7 +13,7 @@ use Rattle.dl_base.specs.declared.row.Row.{Row}
 use Rattle.dl_base.specs.declared.row.Row.TheVariants as row
 use Rattle.horn_closure.specs.Closure.{ClosedSet, IsClosure}
 use Rattle.horn_closure.proofs.ClosureLemmas.{closure_held}
-use Rattle.role_graph.proofs.OutsideLemmas.{derived_placed}
+use Rattle.dl_base.proofs.OntologyLemmas.{derived_placed}
 
 -- rows of an ontology are within the limits of all ontologies
 row_wider : (o : Terminology) → IsTerminology o → (r : Row) → IsRowOf o r → IsRowWithin 512 256 r
@@ -29,7 +29,7 @@ module _ (o : Terminology) (rows : List Row) (within : IsTerminology o) (all : A
   gives_placed (row.Role p a d) n b h (inl g) = subst (IsPlaced (length o.concepts) (length o.roles)) (sym g.1) h
   gives_placed (row.Role p a d) n b h (inr g) = subst (IsPlaced (length o.concepts) (length o.roles)) (sym g.1) h
 
-  holds_placed : (n : ℕ) (b : Basic) → HoldsBy rows n b → IsPlaced (length o.concepts) (length o.roles) b
+  pub holds_placed : (n : ℕ) (b : Basic) → HoldsBy rows n b → IsPlaced (length o.concepts) (length o.roles) b
   holds_placed n b h = gives_placed h.0 n b (All-contains (IsRowOf o) rows h.0 all h.1) h.2
 
   pub points_placed : (n : ℕ) (r : Role) → PointsTo o rows n r → r.name < length o.roles

@@ -37,7 +37,7 @@ bit_upto false c h = omega arith
 bit_upto true false h = absurd (let e : false ≡ true = h refl in cc)
 bit_upto true true h = omega arith
 
-behind_on : (after : Option Row) (r q : Row) → IsRowBehind after r → numbered_row_cmp r q ≡ Less → IsRowBehind after q
+pub behind_on : (after : Option Row) (r q : Row) → IsRowBehind after r → numbered_row_cmp r q ≡ Less → IsRowBehind after q
 behind_on None r q behind less = tt
 behind_on (Some a) r q behind less = numbered_total.trans a r q behind less
 
@@ -86,7 +86,7 @@ gives_named (row.Role p a d) n b (inr g) = inr (sym g.0)
 pub held_none : (rows : List Row) (n : ℕ) (held : List ℕ) → ((b : Basic) → HasBasic held b → ⊥) → HeldUpTo rows n None held
 held_none rows n held none = record { each = λ b. (λ h. absurd (none b h), λ found. absurd (found.2 tt)) }
 
-behind_or_not : (after : Option Row) (q : Row) → IsRowBehind after q ⊎ (IsRowBehind after q → ⊥)
+pub behind_or_not : (after : Option Row) (q : Row) → IsRowBehind after q ⊎ (IsRowBehind after q → ⊥)
 behind_or_not None q = inl tt
 behind_or_not (Some a) q = by (numbered_row_cmp a q) refl
   where

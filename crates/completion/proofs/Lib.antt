@@ -4,3 +4,15 @@ pub mod AtLemmas
 pub mod MapLemmas
 pub mod BookLemmas
 pub mod NamedLemmas
+pub mod EdgeLemmas
+pub mod OrderLemmas
+pub mod SearchLemmas
+pub mod MembersLemmas
+pub mod TargetLemmas
+pub mod KeptLemmas
+pub mod LeastLemmas
+pub mod ChoiceLemmas
+pub mod AssertedLemmas
+pub mod FillLemmas
+pub mod CompletedLemmas
+pub mod GatherLemmas

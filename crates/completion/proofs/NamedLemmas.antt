@@ -1,8 +1,7 @@
 -- What rows by numbers say is what the rows by names say that they stand for.
 use Rattle.std.proofs.Common.{◌≡◌, ℕ, ◌↔◌, inl, inr, Bool, true, false, List, slice_get, Contains, Some, refl, sym, ◌∙◌, ap, subst}
 use Rattle.assert_tables.specs.Rows.{IsNamedIn}
-use Rattle.completion.specs.Completed.{Completion, IsCompletionOf}
-use Rattle.completion.specs.Named.{IsNamedCompletion, NumbersRow, StandFor}
+use Rattle.completion.specs.Named.{NumbersRow, StandFor}
 use Rattle.completion.specs.Numbered.{GivesBasic, HoldsBy, IsLiveRole, IsNamed, PointsTo}
 use Rattle.dl_base.specs.Completion.{IndividualPoints, IsLive}
 use Rattle.dl_base.specs.Completion as completion
@@ -16,8 +15,7 @@ use Rattle.dl_base.specs.declared.row.NamedRow.TheVariants as named
 use Rattle.dl_base.specs.declared.row.Row.{Row}
 use Rattle.dl_base.specs.declared.row.Row.TheVariants as row
 use Rattle.dl_base.proofs.DerivationLemmas.{monotone}
-use Rattle.dl_base.proofs.PlaceLemmas.{member_at, one_place, some_same}
-use Rattle.horn_closure.proofs.ClosureLemmas.{closure_held}
+use Rattle.dl_base.proofs.PlaceLemmas.{one_place, some_same}
 use Rattle.role_graph.specs.Reached.{first, next}
 
 module _ (o : Terminology) (names : List (List ℕ)) (rows : List Row) (these : List NamedRow) (within : IsTerminology o) (stand : StandFor o names rows these) where
@@ -32,7 +30,7 @@ module _ (o : Terminology) (names : List (List ℕ)) (rows : List Row) (these : 
   named_by n (row.Concept d m) (named.Role p a b) there numbers e = absurd numbers
   named_by n (row.Role q k m) (named.Concept c a) there numbers e = absurd numbers
 
-  name_of : (n : ℕ) → IsNamed rows n → (a : List ℕ) × (slice_get names n ≡ Some a) × IsIndividual these a
+  pub name_of : (n : ℕ) → IsNamed rows n → (a : List ℕ) × (slice_get names n ≡ Some a) × IsIndividual these a
   name_of n (r, there, named_in) = let found = stand.only r there in named_by n r found.0 found.1 found.2 named_in
 
   numbered_by : (a : List ℕ) (q : NamedRow) (r : Row) → Contains rows r → NumbersRow o names q r → Names a q → (n : ℕ) × (slice_get names n ≡ Some a) × IsNamed rows n
@@ -42,13 +40,13 @@ module _ (o : Terminology) (names : List (List ℕ)) (rows : List Row) (these : 
   numbered_by a (named.Concept c x) (row.Role q k m) there numbers e = absurd numbers
   numbered_by a (named.Role p x y) (row.Concept d m) there numbers e = absurd numbers
 
-  number_of : (a : List ℕ) → IsIndividual these a → (n : ℕ) × (slice_get names n ≡ Some a) × IsNamed rows n
+  pub number_of : (a : List ℕ) → IsIndividual these a → (n : ℕ) × (slice_get names n ≡ Some a) × IsNamed rows n
   number_of a (q, there, names_it) = let found = stand.each q there in numbered_by a q found.0 found.1 found.2 names_it
 
-  one_number : (n m : ℕ) (a : List ℕ) → slice_get names n ≡ Some a → slice_get names m ≡ Some a → n ≡ m
+  pub one_number : (n m : ℕ) (a : List ℕ) → slice_get names n ≡ Some a → slice_get names m ≡ Some a → n ≡ m
   one_number n m a at_n at_m = one_place names n m a stand.distinct at_n at_m
 
-  named_individual : (n : ℕ) (a : List ℕ) → slice_get names n ≡ Some a → IsIndividual these a → IsNamed rows n
+  pub named_individual : (n : ℕ) (a : List ℕ) → slice_get names n ≡ Some a → IsIndividual these a → IsNamed rows n
   named_individual n a at is = let found = number_of a is in subst (IsNamed rows) (one_number found.0 n a found.1 at) found.2
 
   -- ---- what is held
@@ -70,7 +68,7 @@ module _ (o : Terminology) (names : List (List ℕ)) (rows : List Row) (these : 
     by_row (row.Concept d m) (named.Role p x y) b there numbers gives = absurd numbers
     by_row (row.Role q k m) (named.Concept c x) b there numbers gives = absurd numbers
 
-    holds_held : (b : Basic) → HoldsBy rows n b → Held o these a b
+    pub holds_held : (b : Basic) → HoldsBy rows n b → Held o these a b
     holds_held b (r, there, gives) = let found = stand.only r there in by_row r found.0 b found.1 found.2 gives
 
     concept_given : (c : ℕ) (name : List ℕ) (r : Row) → slice_get o.concepts c ≡ Some name → Contains rows r → NumbersRow o names (named.Concept name a) r → HoldsBy rows n (basic.Concept c)
@@ -88,7 +86,7 @@ module _ (o : Terminology) (names : List (List ℕ)) (rows : List Row) (these : 
     role_given false p name b (row.Concept d m) at_p there numbers = absurd numbers
     role_given true p name b (row.Concept d m) at_p there numbers = absurd numbers
 
-    held_holds : (b : Basic) → Held o these a b → HoldsBy rows n b
+    pub held_holds : (b : Basic) → Held o these a b → HoldsBy rows n b
     held_holds (basic.Concept c) h = let found = stand.each (named.Concept h.name a) h.there in concept_given c h.name found.0 h.named found.1 found.2
     held_holds (basic.Exists r) (b, h) = let found = stand.each (row_of h.name r.inverse a b) h.there in role_given r.inverse r.name h.name b found.0 h.named found.1 found.2
 
@@ -97,33 +95,23 @@ module _ (o : Terminology) (names : List (List ℕ)) (rows : List Row) (these : 
 
     -- ---- points
 
-    points_named : (r : Role) → IsIndividual these a → PointsTo o rows n r → IndividualPoints o these a r
+    pub points_named : (r : Role) → IsIndividual these a → PointsTo o rows n r → IndividualPoints o these a r
     points_named r is points = record {
       individual = is;
       derived = monotone o.inclusions (HoldsBy rows n) (Held o these a) holds_held points.derived;
       no_row = λ b has. points.no_row (held_holds (basic.Exists r) (b, has));
     }
 
-    points_numbered : (r : Role) → IndividualPoints o these a r → PointsTo o rows n r
+    pub points_numbered : (r : Role) → IndividualPoints o these a r → PointsTo o rows n r
     points_numbered r points = record {
       derived = monotone o.inclusions (Held o these a) (HoldsBy rows n) held_holds points.derived;
       no_row = λ holds. (let h = holds_held (basic.Exists r) holds in points.no_row h.0 h.1);
     }
 
-  live_named : {r : Role} → IsLiveRole o rows r → IsLive o these r
+  pub live_named : {r : Role} → IsLiveRole o rows r → IsLive o these r
   live_named {r} (first p) = let found = name_of p.0 p.1 in completion.first found.0 (points_named p.0 found.0 found.1 r found.2 p.2)
   live_named {r} (next before points) = completion.next (live_named before) points
 
-  live_numbered : {r : Role} → IsLive o these r → IsLiveRole o rows r
+  pub live_numbered : {r : Role} → IsLive o these r → IsLiveRole o rows r
   live_numbered {r} (completion.first a points) = let found = number_of a points.individual in first (found.0, found.2, points_numbered found.0 a found.1 r points)
   live_numbered {r} (completion.next before points) = next (live_numbered before) points
-
-  -- ---- all of it
-
-  pub named_completion : (c : Completion) → IsCompletionOf o rows c → IsNamedCompletion o names these c
-  named_completion c is = record {
-    numbered = λ a individual. (let found = number_of a individual in member_at names found.0 a found.1);
-    individuals = λ n. (λ kept. name_of n ((is.individuals.each n).0 kept), λ found. (is.individuals.each n).1 (named_individual n found.0 found.1 found.2));
-    derived = λ n a x at found. closure_held o.inclusions (HoldsBy rows n) (Held o these a) (same_held n a at) x.closed (is.individuals.derived n x found).closure;
-    live = λ r. (λ has. live_named ((is.book.live r).0 has), λ live. (is.book.live r).1 (live_numbered live));
-  }

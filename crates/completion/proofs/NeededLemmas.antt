@@ -3,7 +3,7 @@ use Rattle.std.proofs.Common.{◌≡◌, ℕ, ◌+◌, ◌<◌, ◌⊎◌, ◌�
 use Rattle.std.proofs.lemmas.Bool.{cases_eq}
 use Rattle.dl_base.specs.Sets.{HasRole}
 use Rattle.dl_base.specs.declared.concept.Role.{Role}
-use Rattle.role_graph.proofs.SetLemmas.{direct_or_inverse}
+use Rattle.dl_base.proofs.RoleLemmas.{direct_or_inverse}
 
 module _ (P : Role → Type 0) where
   -- the roles of the first so many names of which this is true are added

@@ -1,18 +1,21 @@
 -- What is completed of asserted rows.
-use Rattle.std.specs.Prelude.{◌≡◌, ◌↔◌, ℕ, List, length}
+use Rattle.std.specs.Prelude.{◌≡◌, ◌↔◌, ℕ, List, Contains, length}
 use Rattle.dl_base.specs.Ontology.{Terminology}
 use Rattle.dl_base.specs.Sets.{HasRole}
+use Rattle.dl_base.specs.Tables.{TableRow}
 use Rattle.dl_base.specs.declared.concept.Role.{Role}
 use Rattle.dl_base.specs.declared.row.Row.{Row}
 use Rattle.witness_book.specs.Witnesses.{Witnesses, generation_of}
+use Rattle.completion.specs.Edges.{IsTableRow}
 use Rattle.completion.specs.Individuals.{AreAtIndividuals}
 use Rattle.completion.specs.Numbered.{IsLiveRole}
 use Rattle.completion.specs.declared.individuals.AtIndividual.{AtIndividual}
 
--- what is derived at individuals, and the book of witnesses
+-- what is derived at individuals, the book of witnesses, and the rows of the tables
 pub record Completion : Type 0 where
   pub individuals : List (ℕ × AtIndividual)
   pub book : Witnesses
+  pub rows : List TableRow
 
 -- the book is for the roles of the ontology, the live roles were set once, they are those of the rows, and each is in its
 -- first generation
@@ -26,3 +29,4 @@ pub record IsFirstBook (o : Terminology) (rows : List Row) (b : Witnesses) : Typ
 pub record IsCompletionOf (o : Terminology) (rows : List Row) (c : Completion) : Type 0 where
   pub individuals : AreAtIndividuals o rows c.individuals
   pub book : IsFirstBook o rows c.book
+  pub table : (row : TableRow) → Contains c.rows row ↔ IsTableRow o rows row

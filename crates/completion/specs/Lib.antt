@@ -3,3 +3,9 @@ pub mod Points
 pub mod Individuals
 pub mod Completed
 pub mod Named
+pub mod Edges
+pub mod Members
+pub mod EdgeLists
+pub mod TableRows
+pub mod Gathered
+pub mod Least

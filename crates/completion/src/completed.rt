@@ -5,12 +5,15 @@ ghost use Rattle.completion.specs.Completed.{IsCompletionOf, IsFirstBook};
 ghost use Rattle.completion.specs.Individuals.{IsKept, IsLeastNumber, found_at};
 ghost use Rattle.completion.specs.Named.{IsNamedCompletion, StandFor};
 ghost use Rattle.completion.specs.Numbered.{IsRowOf};
+ghost use Rattle.completion.specs.TableRows.{table_of};
 ghost use Rattle.dl_base.specs.declared.row.NamedRow.{NamedRow};
 ghost use Rattle.completion.specs.declared.individuals.AtIndividual.{AtIndividual as AnyAt};
 ghost use Rattle.horn_closure.specs.Closure.{IsScratchOf};
 ghost use Rattle.role_graph.specs.Graph.{IsGraphOf};
 
+use crate::fill::table_rows;
 use crate::individuals::{AtIndividual, at_individuals, next_in};
+use crate::rows::TableRows;
 use assert_tables::Assertions;
 use dl_base::RoleSet;
 use horn_closure::{Closed, Rules, Scratch, Steps};
@@ -21,20 +24,22 @@ use std::marker::Model;
 use std::sync::ledger::Ledger;
 use witness_book::WitnessBook;
 
-/// What an ontology derives from asserted rows: the closure of each individual that they name, and the book of the
-/// witnesses that are needed. Memory and time follow the rows and their individuals, however great the numbers are.
+/// What an ontology derives from asserted rows: the closure of each individual that they name, the book of the witnesses
+/// that are needed, and the rows of the completed tables. Memory and time follow the rows and their individuals, however great the numbers are.
 #[derive(Drop)]
 pub struct Completed {
     individuals: BTreeMap<u32, AtIndividual>,
     book: WitnessBook,
+    table: TableRows,
 }
 
 impl Model for Completed {
     ghost use Rattle.completion.specs.Completed.{Completion};
+    ghost use Rattle.completion.specs.TableRows.{table_of};
 
     ghost Value = { Completion };
 
-    ghost view = { λ c. record { individuals = c.individuals.entries; book = c.book } };
+    ghost view = { λ c. record { individuals = c.individuals.entries; book = c.book; rows = table_of c.table } };
 }
 
 impl Completed {
@@ -60,7 +65,12 @@ impl Completed {
         let live = graph.live(&pointed);
         let mut book = WitnessBook::new(alloc, rules.roles().len() as u32)?;
         book.set_live(&live);
-        Ok(Completed { individuals, book })
+        let table = table_rows(alloc, rules, graph, rows, &individuals, &book)?;
+        Ok(Completed {
+            individuals,
+            book,
+            table,
+        })
     }
 
     /// The book of the witnesses. It takes no memory, nor do the calls below.
@@ -87,5 +97,12 @@ impl Completed {
             Some(at) => Some(&at.closed),
             None => None,
         }
+    }
+
+    /// The rows of the tables.
+    pub(crate) fn rows(&self) -> &TableRows
+        ensures { self.now.rows ≡ table_of result.now }
+    {
+        &self.table
     }
 }

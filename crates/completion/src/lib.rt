@@ -1,9 +1,19 @@
-//! What is derived at the individuals of asserted rows, and the witnesses that roles need for them.
+//! Completed tables: what is derived at the individuals of asserted rows and at the witnesses that roles need for them.
 #![tactic(auto)]
 
+mod asserted;
 mod completed;
+mod edges;
+mod fill;
+mod gather;
 mod held;
 mod individuals;
+mod members;
+mod order;
 mod points;
+mod rows;
+mod tables;
+#[cfg(test)]
+mod tests;
 
 pub use completed::Completed;

@@ -1,7 +1,8 @@
 use Rattle.std.proofs.Common.{◌≡◌, ◌<◌, ℕ, List, length, ap, arith}
 use Rattle.completion.proofs.AtLemmas.{points_placed}
 use Rattle.completion.proofs.BookLemmas.{first_book, pointed_is}
-use Rattle.completion.proofs.NamedLemmas.{named_completion}
+use Rattle.completion.proofs.CompletedLemmas.{named_completion}
+use Rattle.completion.specs.TableRows.{table_of}
 use Rattle.completion.specs.Numbered.{IsPointedTo}
 use Rattle.dl_base.specs.Sets.{HasRole}
 use Rattle.dl_base.specs.declared.concept.Role.{Role}
@@ -23,16 +24,21 @@ set_live-requires-clause-within g c = λ r has.
     let names : length c.roles.result.now ≡ length o.roles = ap (λ (xs : List (List ℕ)). length xs) c.roles.ensures.names in
     omega (arith, below, roles, names, each)
 
-pub returns-clause-completion : goal.returns-clause-completion
-returns-clause-completion g c =
+pub table_rows-requires-clause-book : goal.table_rows-requires-clause-book
+table_rows-requires-clause-book g c =
     let o = c.args.rules.now in
     let rows = c.args.rows.now in
-    record {
-      individuals = c.in_ok-individuals.ensures.each;
-      book = first_book o rows c.new-pointed.result c.at_individuals.new.pointed c.live-live.result c.new-pointed.ensures c.in_ok-individuals.ensures.pointed (c.live-live.ensures.reached o c.requires.graph)
-          (length c.roles.result.now) c.in_ok-book.book c.set_live.new.self (ap (λ (xs : List (List ℕ)). length xs) c.roles.ensures.names) c.in_ok-book.ensures c.set_live.ensures;
-    }
+    first_book o rows c.new-pointed.result c.at_individuals.new.pointed c.live-live.result c.new-pointed.ensures c.in_ok-individuals.ensures.pointed (c.live-live.ensures.reached o c.requires.graph)
+    (length c.roles.result.now) c.in_ok-book.book c.set_live.new.self (ap (λ (xs : List (List ℕ)). length xs) c.roles.ensures.names) c.in_ok-book.ensures c.set_live.ensures
+
+pub returns-clause-completion : goal.returns-clause-completion
+returns-clause-completion g c = record {
+  individuals = c.in_ok-individuals.ensures.each;
+  book = first_book c.args.rules.now c.args.rows.now c.new-pointed.result c.at_individuals.new.pointed c.live-live.result c.new-pointed.ensures c.in_ok-individuals.ensures.pointed (c.live-live.ensures.reached c.args.rules.now c.requires.graph)
+      (length c.roles.result.now) c.in_ok-book.book c.set_live.new.self (ap (λ (xs : List (List ℕ)). length xs) c.roles.ensures.names) c.in_ok-book.ensures c.set_live.ensures;
+  table = c.in_ok-table.ensures;
+}
 
 pub returns-clause-named : goal.returns-clause-named
 returns-clause-named g c = λ names these stand. named_completion c.args.rules.now names c.args.rows.now these c.roles.ensures.within stand
-    (record { individuals = c.in_ok-individuals.individuals.entries; book = c.set_live.new.self }) (returns-clause-completion g c)
+    (record { individuals = c.in_ok-individuals.individuals.entries; book = c.set_live.new.self; rows = table_of c.in_ok-table.table }) (returns-clause-completion g c)
