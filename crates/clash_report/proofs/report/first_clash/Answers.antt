@@ -1,0 +1,20 @@
+use Rattle.std.proofs.Common.{refl, subst, length, List}
+use Rattle.dl_base.specs.declared.concept.Role.{Role}
+use Rattle.clash_report.specs.Report.{AreNamedRoles, IsLeastFound}
+use Rattle.clash_report.proofs.ReportLemmas.{reported_none, reported_some}
+use Rattle.clash_report.proofs.report.first_clash.Goals as goal
+
+pub returns-in-None : goal.returns-in-None
+returns-in-None c = λ rows are.
+    let o = c.args.o.now in
+    let names = c.args.individuals.now in
+    reported_none o rows names are.numbered (subst (IsLeastFound o rows names (length names)) c.in-None.is (c.in_ok-least_found.ensures.least rows are))
+
+pub returns-in_ok-path-in-Some : goal.returns-in_ok-path-in-Some
+returns-in_ok-path-in-Some c = λ rows are.
+    let o = c.args.o.now in
+    let names = c.args.individuals.now in
+    let found = c.in-Some.found in
+    reported_some o rows names are.numbered found (record { inclusion = found.clash.inclusion; name = c.in_ok-name-in-Some.name; path = c.in_ok-path-in-Some.path }) c.name.result.now
+    (subst (IsLeastFound o rows names (length names)) c.in-Some.is (c.in_ok-least_found.ensures.least rows are)) c.name.ensures c.in_ok-name-in-Some.ensures
+    (subst (λ (p : List Role). AreNamedRoles o p c.in_ok-path-in-Some.path) c.items.ensures c.in_ok-path-in-Some.ensures) refl
