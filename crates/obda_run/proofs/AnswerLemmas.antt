@@ -1,5 +1,5 @@
--- Laws of the answers to a document: each head is a concept name, so nothing is a successor and nothing clashes.
-use Rattle.std.proofs.Common.{◌≡◌, ℕ, List, All, Contains, None, Result, Ok, Err, IfOk, refl, subst}
+-- Laws of the reply to a document.
+use Rattle.std.proofs.Common.{◌≡◌, ℕ, List, All, Contains, Some, None, Result, Ok, Err, IfOk, refl, sym, subst}
 use Rattle.std.specs.List.{AllByRecursion}
 use Rattle.std.proofs.lemmas.List.Elements.{All-contains}
 use Rattle.dl_base.specs.Ontology.{Terminology}
@@ -21,8 +21,14 @@ use Rattle.dl_base.specs.Rows.{row_cmp}
 use Rattle.query_shape.specs.ShapeFault.{IsKnown, IsAtomFault, IsShapeFault}
 use Rattle.query_shape.specs.declared.numbering.ShapeError.{ShapeError}
 use Rattle.query_shape.specs.declared.numbering.ShapeError.TheVariants as errors
-use Rattle.answer_core.specs.AnswerLaws.{HasNoSuccessorHead}
-use Rattle.obda_run.specs.Drafting.{IsConceptHead, IsWhole, HasReply}
+use Rattle.clash_report.specs.Report.{IsReported}
+use Rattle.completion.specs.Named.{StandFor}
+use Rattle.dl_base.specs.Replies.{Answers, Inconsistent}
+use Rattle.dl_base.specs.declared.clash.Clash.{Clash}
+use Rattle.obda_run.specs.Document.{Says}
+use Rattle.reply_text.specs.declared.reply.Reply.{Reply}
+use Rattle.reply_text.specs.declared.reply.Reply.TheVariants as shown
+use Rattle.obda_run.specs.Drafting.{IsWhole, HasReply}
 use Rattle.obda_run.specs.declared.document.Document.{Document}
 use Rattle.dl_base.proofs.InOrder.{in_order}
 use Rattle.obda_run.proofs.FactLemmas.{rows_in_order}
@@ -44,27 +50,6 @@ only_memory o q (errors.UnknownConcept told) known fault = absurd (concept_known
 only_memory o q (errors.UnknownRole told) known fault = absurd (role_known o fault.atom told (All-contains (IsKnown o) q.atoms fault.atom known (member_at q.atoms fault.place fault.atom fault.there)) fault.fault)
 only_memory o q errors.NoMemory known fault = refl
 
--- ---- heads
-
-nothing_head : (h : Head) → IsConceptHead h → h ≡ head.Nothing → ⊥
-nothing_head h is same = subst IsConceptHead same is
-
-successor_head : (h : Head) (r : Role) → IsConceptHead h → h ≡ head.Basic (basic.Exists r) → ⊥
-successor_head h r is same = subst IsConceptHead same is
-
-module _ (o : Terminology) (built : AllByRecursion (λ i. IsConceptHead i.head) o.inclusions) where
-  head_built : (i : Inclusion) → Contains o.inclusions i → IsConceptHead i.head
-  head_built i there = all_contains (λ i. IsConceptHead i.head) o.inclusions i built there
-
-  pub no_successor_head : HasNoSuccessorHead o
-  no_successor_head i there r is = successor_head i.head r (head_built i there) is
-
-  -- nothing clashes
-  pub no_clash : (rows : List NamedRow) → IsFirstClash o rows None
-  no_clash rows c clash =
-      let v = clash.violates in
-      nothing_head v.inclusion.head (head_built v.inclusion (member_at o.inclusions v.before v.inclusion v.at)) v.nothing
-
 -- ---- the reply
 
 -- the rows of a document, in order
@@ -74,13 +59,45 @@ rows_in whole = in_order row_cmp row_total row_same whole.said.facts
 pub rows_are : {lines : List (List ℕ)} {document : Document} (whole : IsWhole lines document) → AreRowsOf whole.said.facts (rows_in whole)
 rows_are whole = rows_in_order whole.said.facts
 
--- the answers are the reply to the document
-pub replied : {E : Type 0} (lines : List (List ℕ)) (document : Document) (r : Result (List (List (List ℕ))) E) (whole : IsWhole lines document)
-    → IfOk r (AreAnswers document.ontology (rows_in whole) document.asked) → IfOk r (HasReply lines document.ontology)
-replied lines document (Err e) whole answers = tt
-replied lines document (Ok keys) whole answers = record {
+says_of : {lines : List (List ℕ)} {document : Document} (whole : IsWhole lines document) → Says lines document.ontology (rows_in whole) document.asked
+says_of whole = record { after = whole.said; accepted = whole.accepted; ontology = whole.ontology.makes; rows_are = rows_are whole; query = whole.asked }
+
+-- its rows by numbers stand for those in order
+pub stand_of : {lines : List (List ℕ)} {document : Document} (whole : IsWhole lines document) → StandFor document.ontology document.facts.individuals document.facts.rows (rows_in whole)
+stand_of whole =
+    let stand = whole.facts.stand in
+    let are = rows_are whole in
+    record {
+      distinct = stand.distinct;
+      each = λ r c. stand.each r (are.only r c);
+      only = λ n c. let found = stand.only n c in (found.0, are.each found.0 found.1, found.2);
+    }
+
+-- the answers are the reply to the document, where nothing clashes
+pub answers_replied : (lines : List (List ℕ)) (document : Document) (keys : List (List (List ℕ))) (whole : IsWhole lines document) → IsFirstClash document.ontology (rows_in whole) None
+    → AreAnswers document.ontology (rows_in whole) document.asked keys → HasReply lines document.ontology (shown.Answers keys)
+answers_replied lines document keys whole none answers = record {
   rows = rows_in whole;
   query = document.asked;
-  says = record { after = whole.said; accepted = whole.accepted; ontology = whole.ontology.makes; rows_are = rows_are whole; query = whole.asked };
-  reply = (no_clash document.ontology whole.ontology.built (rows_in whole), answers);
+  says = says_of whole;
+  reply = Answers keys;
+  is_reply = (none, answers);
+  is_shown = refl;
+}
+
+pub answers_shown : {E : Type 0} (lines : List (List ℕ)) (document : Document) (r : Result Reply E) (whole : IsWhole lines document) → IsFirstClash document.ontology (rows_in whole) None
+    → IfOk r (λ (s : Reply). (keys : List (List (List ℕ))) × AreAnswers document.ontology (rows_in whole) document.asked keys × (s ≡ shown.Answers keys)) → IfOk r (HasReply lines document.ontology)
+answers_shown lines document (Err e) whole none answers = tt
+answers_shown lines document (Ok s) whole none (keys, are, is) = subst (HasReply lines document.ontology) (sym is) (answers_replied lines document keys whole none are)
+
+-- the first clash is the reply to it
+pub clash_replied : (lines : List (List ℕ)) (document : Document) (c : Clash) (whole : IsWhole lines document) → IsReported document.ontology (rows_in whole) (Some c)
+    → HasReply lines document.ontology (shown.Inconsistent c)
+clash_replied lines document c whole (p, first, named) = record {
+  rows = rows_in whole;
+  query = document.asked;
+  says = says_of whole;
+  reply = Inconsistent p;
+  is_reply = first;
+  is_shown = named;
 }

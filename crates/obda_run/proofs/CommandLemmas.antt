@@ -6,7 +6,8 @@ use Rattle.dl_base.specs.Query.{Question}
 use Rattle.dl_base.specs.declared.row.NamedRow.{NamedRow}
 use Rattle.obda_run.specs.Document.{IsDocument, Asks, Refused as IsRefused}
 use Rattle.obda_run.specs.Drafting.{IsWhole, HasReply}
-use Rattle.obda_run.specs.Text.{answers_text}
+use Rattle.reply_text.specs.ReplyText.{text_of_reply}
+use Rattle.reply_text.specs.declared.reply.Reply.{Reply}
 use Rattle.obda_run.specs.Run.{Reads, GaveEnd, Ends, Ran, RepliesTo, IsDocumentOf}
 use Rattle.obda_run.specs.declared.document.Document.{Document}
 use Rattle.obda_run.specs.declared.status.Status.{Status}
@@ -24,20 +25,53 @@ one_item (y ∷ z ∷ zs) x some few is = absurd (omega (arith, few))
 pub same_item : {A : Type 0} (x y : A) → x ∷ [] ≡ y ∷ [] → x ≡ y
 same_item x y same = ap (λ l. get_or l 0 x) same
 
+-- ---- how a reply ends
+
+-- a reply ends in one of three ways
+abbrev RepliesOnly : Status → Type 0
+RepliesOnly s = (s ≡ status.Done) ⊎ (s ≡ status.PrintFault) ⊎ (s ≡ status.NoMemory)
+
+pub never_usage : (s : Status) → RepliesOnly s → s ≡ status.Usage → ⊥
+never_usage s (inl d) e = let f : status.Done ≡ status.Usage = sym d ∙ e in cc
+never_usage s (inr (inl d)) e = let f : status.PrintFault ≡ status.Usage = sym d ∙ e in cc
+never_usage s (inr (inr d)) e = let f : status.NoMemory ≡ status.Usage = sym d ∙ e in cc
+
+pub never_read_fault : (s : Status) → RepliesOnly s → s ≡ status.ReadFault → ⊥
+never_read_fault s (inl d) e = let f : status.Done ≡ status.ReadFault = sym d ∙ e in cc
+never_read_fault s (inr (inl d)) e = let f : status.PrintFault ≡ status.ReadFault = sym d ∙ e in cc
+never_read_fault s (inr (inr d)) e = let f : status.NoMemory ≡ status.ReadFault = sym d ∙ e in cc
+
+pub never_disk_fault : (s : Status) → RepliesOnly s → s ≡ status.DiskFault → ⊥
+never_disk_fault s (inl d) e = let f : status.Done ≡ status.DiskFault = sym d ∙ e in cc
+never_disk_fault s (inr (inl d)) e = let f : status.PrintFault ≡ status.DiskFault = sym d ∙ e in cc
+never_disk_fault s (inr (inr d)) e = let f : status.NoMemory ≡ status.DiskFault = sym d ∙ e in cc
+
+pub never_damaged : (s : Status) → RepliesOnly s → (area at : ℕ) → s ≡ status.Damaged area at → ⊥
+never_damaged s (inl d) area at e = let f : status.Done ≡ status.Damaged area at = sym d ∙ e in cc
+never_damaged s (inr (inl d)) area at e = let f : status.PrintFault ≡ status.Damaged area at = sym d ∙ e in cc
+never_damaged s (inr (inr d)) area at e = let f : status.NoMemory ≡ status.Damaged area at = sym d ∙ e in cc
+
+pub else_no_memory : (s : Status) → RepliesOnly s → (s ≡ status.Done → ⊥) → (s ≡ status.PrintFault → ⊥) → s ≡ status.NoMemory
+else_no_memory s (inl d) a b = absurd (a d)
+else_no_memory s (inr (inl d)) a b = absurd (b d)
+else_no_memory s (inr (inr d)) a b = d
+
 -- ---- the reply
 
--- the text of the keys is that of the reply to the document
-pub replies_to : (read text : List ℕ) (keys : List (List (List ℕ))) (document : Document) → IsDocumentOf read document
-    → ((lines : List (List ℕ)) → IsWhole lines document → HasReply lines document.ontology keys) → text ≡ answers_text keys → RepliesTo read text
-replies_to read text keys document d replies is =
+-- the text of what is shown is that of the reply to the document
+pub replies_to : (read text : List ℕ) (shown : Reply) (document : Document) → IsDocumentOf read document
+    → ((lines : List (List ℕ)) → IsWhole lines document → HasReply lines document.ontology shown) → text ≡ text_of_reply shown → RepliesTo read text
+replies_to read text shown document d replies is =
     let reply = replies d.lines d.whole in
     record {
       ontology = document.ontology;
       rows = reply.rows;
       query = reply.query;
       document = record { lines = d.lines; cut = d.cut; means = reply.says };
-      keys = keys;
       reply = reply.reply;
+      is_reply = reply.is_reply;
+      shown = shown;
+      is_shown = reply.is_shown;
       text_is = is;
     }
 

@@ -5,7 +5,6 @@ use Rattle.std.specs.List.{list_any}
 use Rattle.std.specs.List.Sorted.{IsStrictlySortedBy}
 use Rattle.std.specs.Cmp.{IsTotalOrder}
 use Rattle.std.specs.Str.{bytes_eq}
-use Rattle.std.specs.BTreeSet.{insert_key, btree_set_len, IsEmpty}
 use Rattle.std.specs.declared.cmp.Ordering.{Ordering}
 use Rattle.std.specs.declared.cmp.Ordering.TheVariants.{Less, Equal}
 use Rattle.std.specs.Ordering.{match_ordering, nat_cmp}
@@ -14,35 +13,32 @@ use Rattle.std.proofs.lemmas.Cmp.{tied_itself}
 use Rattle.std.proofs.lemmas.List.Elements.{Contains-append_left, Contains-push}
 use Rattle.std.proofs.lemmas.List.Kept.{AllPairs-cons}
 use Rattle.std.proofs.lemmas.Option.{slice_get_within, slice_get-get_or}
+use Rattle.assert_tables.specs.Rows.{AreRisingRows, Gains, IsNamedIn}
+use Rattle.completion.specs.Named.{NumbersRow, StandFor}
+use Rattle.completion.specs.Numbered.{IsNamed, IsRowOf}
 use Rattle.dl_base.specs.Book.{Interns}
+use Rattle.dl_base.specs.Rows.{numbered_row_cmp}
 use Rattle.dl_base.specs.Axiom.{with_name, with_names}
 use Rattle.dl_base.specs.Ontology.{Terminology, IsTerminology}
 use Rattle.dl_base.specs.Rows.{name_cmp, row_cmp, AreRowsOf, AreIndividuals, IsIndividual, Names}
-use Rattle.dl_base.specs.contracts.row.RowOrd.TheImpl.{cmp-value as key_order}
-use Rattle.dl_base.specs.contracts.row.RowOrd.TheImpl.Laws.{total-law}
 use Rattle.dl_base.specs.declared.row.NamedRow.{NamedRow}
 use Rattle.dl_base.specs.declared.row.NamedRow.TheVariants as named
 use Rattle.dl_base.specs.declared.row.Row.{Row}
 use Rattle.dl_base.specs.declared.row.Row.TheVariants as row
-use Rattle.dl_base.proofs.RisingLemmas.{nat_same, placed, placed_rises, placed_adds, Adds, contains_cases, contains_first, contains_later, all_contains}
-use Rattle.dl_base.proofs.RowLemmas.{name_total, name_same, row_total, row_same, contains_cut, individual_through, keys_same, none_rising}
-use Rattle.dl_base.proofs.InOrder.{from_order, in_order, in_order_rises, insert_adds, into_order, rising_distinct}
+use Rattle.dl_base.proofs.RisingLemmas.{nat_same, placed, placed_rises, placed_adds, contains_cases, contains_first, contains_later, all_contains}
+use Rattle.dl_base.proofs.RowLemmas.{name_total, name_same, row_total, row_same, contains_cut, individual_through, numbered_total, numbered_same, none_rising}
+use Rattle.dl_base.proofs.InOrder.{from_order, in_order, in_order_rises, into_order, rising_distinct}
 use Rattle.dl_base.proofs.ExtendLemmas.{name_there, interned_is, name_stays}
 use Rattle.dl_base.proofs.PlaceLemmas.{member_at, place_stays, one_place, distinct_head, distinct_tail, no_more}
-use Rattle.obda_run.specs.Completed.{IsRowWithin}
 use Rattle.obda_run.specs.Document.{TooManyFacts}
-use Rattle.obda_run.specs.Facts.{KeepsFacts, NumbersRow, names_in}
+use Rattle.obda_run.specs.Facts.{KeepsFacts, names_in}
 use Rattle.obda_run.specs.declared.facts.Facts.{Facts}
 
--- ---- keys in the order of rows by number
+-- ---- rows in order, by number
 
 -- they are distinct
-pub keys_distinct : (keys : List Row) → IsStrictlySortedBy key_order.it keys → AllPairs (λ x y. x ≢ y) keys
-keys_distinct = rising_distinct key_order.it total-law keys_same
-
--- and one more goes to its place
-pub key_adds : (n : Row) (old before new : List Row) → before ≡ old → new ≡ insert_key key_order.it before n → Adds n old new
-key_adds n old before new same is = subst (Adds n old) (sym (is ∙ ap (λ (keys : List Row). insert_key key_order.it keys n) same)) (insert_adds key_order.it total-law keys_same n old)
+pub rows_distinct : (rows : List Row) → AreRisingRows rows → AllPairs (λ x y. x ≢ y) rows
+rows_distinct = rising_distinct numbered_row_cmp numbered_total numbered_same
 
 -- ---- partners in another list
 
@@ -188,13 +184,11 @@ number_stays o old new (named.Role p a b) (row.Concept k n) keep e = absurd e
 -- ---- the facts, whether they are within the limits or not
 
 pub record Tracks (o : Terminology) (asserted : List NamedRow) (names : List (List ℕ)) (keys : List Row) : Type 0 where
-  pub distinct : AllPairs (λ x y. x ≢ y) names
+  pub stand : StandFor o names keys asserted
   pub individual : (a : List ℕ) → Contains names a ↔ IsIndividual asserted a
-  pub each : (r : NamedRow) → Contains asserted r → (n : Row) × Contains keys n × NumbersRow o names r n
-  pub only : (n : Row) → Contains keys n → (r : NamedRow) × Contains asserted r × NumbersRow o names r n
 
-pub tracks : (o : Terminology) (asserted : List NamedRow) (facts : Facts) → KeepsFacts o asserted facts → Tracks o asserted facts.individuals facts.rows.keys
-tracks o asserted facts k = record { distinct = k.distinct; individual = k.individual; each = k.each; only = k.only }
+pub tracks : (o : Terminology) (asserted : List NamedRow) (facts : Facts) → KeepsFacts o asserted facts → Tracks o asserted facts.individuals facts.rows
+tracks o asserted facts k = record { stand = k.stand; individual = k.individual }
 
 -- what is asserted in order, each row once
 pub rows_in_order : (asserted : List NamedRow) → AreRowsOf asserted (in_order row_cmp row_total row_same asserted)
@@ -208,22 +202,22 @@ module _ (o : Terminology) (asserted : List NamedRow) (names : List (List ℕ)) 
   -- distinct rows by name are no more than the rows by number
   rows_few : (rows : List NamedRow) → AreRowsOf asserted rows → length rows ≤ length keys
   rows_few rows are = no_more_than (NumbersRow o names) rows keys (rising_distinct row_cmp row_total row_same rows are.rising) (record {
-    partner = λ r c. t.each r (are.only r c);
+    partner = λ r c. t.stand.each r (are.only r c);
     once = one_name o names;
   })
 
   -- and the other way
   keys_few : IsTerminology o → AllPairs (λ x y. x ≢ y) keys → (rows : List NamedRow) → AreRowsOf asserted rows → length keys ≤ length rows
   keys_few is distinct rows are = no_more_than (λ n r. NumbersRow o names r n) keys rows distinct (record {
-    partner = λ n c. let found = t.only n c in (found.0, are.each found.0 found.1, found.2);
-    once = λ n m r. one_number o names r n m is t.distinct;
+    partner = λ n c. let found = t.stand.only n c in (found.0, are.each found.0 found.1, found.2);
+    once = λ n m r. one_number o names r n m is t.stand.distinct;
   })
 
   names_few : (some : List (List ℕ)) → AreIndividuals asserted some → length some ≤ length names
   names_few some are = no_more some names (rising_distinct name_cmp name_total name_same some are.rising) (λ a c. (t.individual a).1 (are.only a c))
 
   too_few : (some : List (List ℕ)) → AreIndividuals asserted some → length names ≤ length some
-  too_few some are = no_more names some t.distinct (λ a c. are.each a ((t.individual a).0 c))
+  too_few some are = no_more names some t.stand.distinct (λ a c. are.each a ((t.individual a).0 c))
 
   -- the individuals in order
   names_in_order : AreIndividuals asserted (in_order name_cmp name_total name_same names)
@@ -264,18 +258,20 @@ module _ (o : Terminology) (asserted : List NamedRow) (names : List (List ℕ)) 
   -- ---- one more row
 
   module _ (r : NamedRow) (more : List (List ℕ)) (n : Row) (keys' : List Row) where
-    pub tracks_more : more ≡ with_names names (names_in r) → AllPairs (λ x y. x ≢ y) more → NumbersRow o more r n → Adds n keys keys' → Tracks o (asserted ++ r ∷ []) more keys'
+    pub tracks_more : more ≡ with_names names (names_in r) → AllPairs (λ x y. x ≢ y) more → NumbersRow o more r n → Gains n keys keys' → Tracks o (asserted ++ r ∷ []) more keys'
     tracks_more is distinct number adds = record {
-      distinct = distinct;
+      stand = record {
+        distinct = distinct;
+        each = λ s c. elim (contains_cut asserted r s c) [
+          | inl e ↦ (n, (adds.each n).1 (inl refl), subst (λ (x : NamedRow). NumbersRow o more x n) (sym e) number)
+          | inr d ↦ let found = t.stand.each s d in (found.0, (adds.each found.0).1 (inr found.1), number_stays o names more s found.0 keep found.2)
+        ];
+        only = λ m c. elim ((adds.each m).0 c) [
+          | inl e ↦ (r, Contains-push asserted r, subst (NumbersRow o more r) (sym e) number)
+          | inr d ↦ let found = t.stand.only m d in (found.0, Contains-append_left asserted (r ∷ []) found.0 found.1, number_stays o names more found.0 m keep found.2)
+        ];
+      };
       individual = λ a. (individual_now a, individual_there a);
-      each = λ s c. elim (contains_cut asserted r s c) [
-        | inl e ↦ (n, adds.there, subst (λ (x : NamedRow). NumbersRow o more x n) (sym e) number)
-        | inr d ↦ let found = t.each s d in (found.0, adds.stays found.0 found.1, number_stays o names more s found.0 keep found.2)
-      ];
-      only = λ m c. elim (adds.each m c) [
-        | inl e ↦ (r, Contains-push asserted r, subst (NumbersRow o more r) (sym e) number)
-        | inr d ↦ let found = t.only m d in (found.0, Contains-append_left asserted (r ∷ []) found.0 found.1, number_stays o names more found.0 m keep found.2)
-      ];
     }
       where
         keep : (k : ℕ) (x : List ℕ) → slice_get names k ≡ Some x → slice_get more k ≡ Some x
@@ -301,72 +297,86 @@ module _ (o : Terminology) (asserted : List NamedRow) (names : List (List ℕ)) 
 
 -- facts that are kept pass no limit
 pub facts_fit : (o : Terminology) (asserted : List NamedRow) (facts : Facts) → KeepsFacts o asserted facts → TooManyFacts asserted → ⊥
-facts_fit o asserted facts k = not_too_many o asserted facts.individuals facts.rows.keys (tracks o asserted facts k) k.few_rows k.few_individuals
+facts_fit o asserted facts k = not_too_many o asserted facts.individuals facts.rows (tracks o asserted facts k) k.few_rows k.few_individuals
 
 -- facts within the limits are kept
-pub facts_kept : (o : Terminology) (asserted : List NamedRow) (facts : Facts) → Tracks o asserted facts.individuals facts.rows.keys
-    → length facts.rows.keys ≤ 1000000 → length facts.individuals ≤ 65536 → KeepsFacts o asserted facts
-facts_kept o asserted facts t rows individuals = record { distinct = t.distinct; individual = t.individual; each = t.each; only = t.only; few_individuals = individuals; few_rows = rows }
+pub facts_kept : (o : Terminology) (asserted : List NamedRow) (facts : Facts) → Tracks o asserted facts.individuals facts.rows
+    → length facts.rows ≤ 1000000 → length facts.individuals ≤ 65536 → KeepsFacts o asserted facts
+facts_kept o asserted facts t rows individuals = record { stand = t.stand; individual = t.individual; few_individuals = individuals; few_rows = rows }
 
 -- what the limits tell
-pub kept_or_too_many : (o : Terminology) (asserted : List NamedRow) (facts : Facts) (fits : Bool) → IsTerminology o → Tracks o asserted facts.individuals facts.rows.keys
-    → AllPairs (λ x y. x ≢ y) facts.rows.keys → IsTrue fits ↔ ((length facts.rows.keys ≤ 1000000) × (length facts.individuals ≤ 65536))
+pub kept_or_too_many : (o : Terminology) (asserted : List NamedRow) (facts : Facts) (fits : Bool) → IsTerminology o → Tracks o asserted facts.individuals facts.rows
+    → AllPairs (λ x y. x ≢ y) facts.rows → IsTrue fits ↔ ((length facts.rows ≤ 1000000) × (length facts.individuals ≤ 65536))
     → MatchBool fits (KeepsFacts o asserted facts) (TooManyFacts asserted)
 kept_or_too_many o asserted facts true is t distinct within = facts_kept o asserted facts t (within.0 refl).0 (within.0 refl).1
 kept_or_too_many o asserted facts false is t distinct within =
-    past_a_limit o asserted facts.individuals facts.rows.keys t is distinct (λ both. absurd (let e : false ≡ true = within.1 both in cc))
+    past_a_limit o asserted facts.individuals facts.rows t is distinct (λ both. absurd (let e : false ≡ true = within.1 both in cc))
 
 nobody : {X : Type 0} (xs : List X) (x : X) → xs ≡ [] → Contains xs x → ⊥
 nobody {X} xs x e c = let d : Contains [] x = subst (λ (ys : List X). Contains ys x) e c in absurd (omega (arith, d.1))
 
 -- no facts
-pub facts_none : (o : Terminology) (facts : Facts) → facts.individuals ≡ [] → IsEmpty facts.rows → KeepsFacts o [] facts
+pub facts_none : (o : Terminology) (facts : Facts) → facts.individuals ≡ [] → facts.rows ≡ [] → KeepsFacts o [] facts
 facts_none o facts no_names no_rows = record {
-  distinct = λ i j d lt below. absurd (let e : length facts.individuals ≡ 0 = ap length no_names in omega arith);
+  stand = record {
+    distinct = λ i j d lt below. absurd (let e : length facts.individuals ≡ 0 = ap length no_names in omega arith);
+    each = λ r c. absurd (nobody [] r refl c);
+    only = λ n c. absurd (nobody facts.rows n no_rows c);
+  };
   individual = λ a. (λ c. absurd (nobody facts.individuals a no_names c), λ i. absurd (nobody [] i.0 refl i.1));
-  each = λ r c. absurd (nobody [] r refl c);
-  only = λ n c. absurd (nobody facts.rows.keys n no_rows c);
   few_individuals = let e : length facts.individuals ≡ 0 = ap length no_names in omega arith;
-  few_rows = let e : length facts.rows.keys ≡ 0 = ap length no_rows in omega arith;
+  few_rows = let e : length facts.rows ≡ 0 = ap length no_rows in omega arith;
 }
 
 -- where no row is kept, none is asserted
-pub no_facts : (o : Terminology) (asserted : List NamedRow) (facts : Facts) → KeepsFacts o asserted facts → btree_set_len facts.rows ≡ 0 → asserted ≡ []
+pub no_facts : (o : Terminology) (asserted : List NamedRow) (facts : Facts) → KeepsFacts o asserted facts → length facts.rows ≡ 0 → asserted ≡ []
 no_facts o [] facts k none = refl
-no_facts o (r ∷ asserted) facts k none = let found = k.each r (contains_first r asserted) in absurd (omega (arith, found.1.1))
+no_facts o (r ∷ asserted) facts k none = let found = k.stand.each r (contains_first r asserted) in absurd (omega (arith, found.1.1))
 
 -- and where some row is kept, some is asserted
-pub some_facts : (o : Terminology) (asserted : List NamedRow) (facts : Facts) → KeepsFacts o asserted facts → btree_set_len facts.rows ≢ 0 → asserted ≢ []
-some_facts o asserted facts k some none = by facts.rows.keys refl
+pub some_facts : (o : Terminology) (asserted : List NamedRow) (facts : Facts) → KeepsFacts o asserted facts → length facts.rows ≢ 0 → asserted ≢ []
+some_facts o asserted facts k some none = by facts.rows refl
   where
-    by : (keys : List Row) → facts.rows.keys ≡ keys → ⊥
+    by : (keys : List Row) → facts.rows ≡ keys → ⊥
     by [] e = some (ap length e)
-    by (n ∷ ns) e = let found = k.only n (subst (λ (ks : List Row). Contains ks n) (sym e) (contains_first n ns)) in nobody asserted found.0 none found.1
+    by (n ∷ ns) e = let found = k.stand.only n (subst (λ (ks : List Row). Contains ks n) (sym e) (contains_first n ns)) in nobody asserted found.0 none found.1
 
 -- no facts are kept whatever the ontology is
 pub facts_of_none : (o new : Terminology) (asserted : List NamedRow) (facts : Facts) → asserted ≡ [] → KeepsFacts o asserted facts → KeepsFacts new asserted facts
 facts_of_none o new asserted facts none k = record {
-  distinct = k.distinct;
+  stand = record {
+    distinct = k.stand.distinct;
+    each = λ r c. absurd (nobody asserted r none c);
+    only = λ n c. let found = k.stand.only n c in absurd (nobody asserted found.0 none found.1);
+  };
   individual = k.individual;
-  each = λ r c. absurd (nobody asserted r none c);
-  only = λ n c. let found = k.only n c in absurd (nobody asserted found.0 none found.1);
   few_individuals = k.few_individuals;
   few_rows = k.few_rows;
 }
 
-row_within : (o : Terminology) (names : List (List ℕ)) (r : NamedRow) (n : Row) → (length o.concepts ≤ 512) × (length o.roles ≤ 256) → NumbersRow o names r n → IsRowWithin 512 256 (length names) n
-row_within o names (named.Concept c a) (row.Concept k n) is e =
-    let of_concept = slice_get_within o.concepts k c e.0 in
-    (omega (arith, of_concept, is.0), slice_get_within names n a e.1)
-row_within o names (named.Role p a b) (row.Role k n m) is e =
-    let of_role = slice_get_within o.roles k p e.0 in
-    (omega (arith, of_role, is.1), slice_get_within names n a e.1, slice_get_within names m b e.2)
-row_within o names (named.Concept c a) (row.Role k n m) is e = absurd e
-row_within o names (named.Role p a b) (row.Concept k n) is e = absurd e
+row_within : (o : Terminology) (names : List (List ℕ)) (r : NamedRow) (n : Row) → NumbersRow o names r n → IsRowOf o n
+row_within o names (named.Concept c a) (row.Concept k n) e = slice_get_within o.concepts k c e.0
+row_within o names (named.Role p a b) (row.Role k n m) e = slice_get_within o.roles k p e.0
+row_within o names (named.Concept c a) (row.Role k n m) e = absurd e
+row_within o names (named.Role p a b) (row.Concept k n) e = absurd e
 
--- the numbers of the rows are those of names
-pub rows_within : (o : Terminology) (asserted : List NamedRow) (facts : Facts) → KeepsFacts o asserted facts → (length o.concepts ≤ 512) × (length o.roles ≤ 256) → All (IsRowWithin 512 256 (length facts.individuals)) facts.rows.keys
-rows_within o asserted facts k is = λ i d below.
-    let n : Row = get_or facts.rows.keys i d in
-    let found = k.only (get_or facts.rows.keys i d) (member_at facts.rows.keys i (get_or facts.rows.keys i d) (slice_get-get_or facts.rows.keys i d below)) in
-    row_within o facts.individuals found.0 (get_or facts.rows.keys i d) is found.2
+-- the rows are of concepts and roles of the ontology
+pub rows_within : (o : Terminology) (asserted : List NamedRow) (facts : Facts) → KeepsFacts o asserted facts → All (IsRowOf o) facts.rows
+rows_within o asserted facts k = λ i d below.
+    let n : Row = get_or facts.rows i d in
+    let found = k.stand.only (get_or facts.rows i d) (member_at facts.rows i (get_or facts.rows i d) (slice_get-get_or facts.rows i d below)) in
+    row_within o facts.individuals found.0 (get_or facts.rows i d) found.2
+
+named_within : (o : Terminology) (names : List (List ℕ)) (r : NamedRow) (x : Row) (n : ℕ) → NumbersRow o names r x → IsNamedIn n x → n < length names
+named_within o names (named.Concept c a) (row.Concept k m) n e (inl same) = omega (arith, same, slice_get_within names m a e.1)
+named_within o names (named.Concept c a) (row.Concept k m) n e (inr same) = omega (arith, same, slice_get_within names m a e.1)
+named_within o names (named.Role p a b) (row.Role k m l) n e (inl same) = omega (arith, same, slice_get_within names m a e.1)
+named_within o names (named.Role p a b) (row.Role k m l) n e (inr same) = omega (arith, same, slice_get_within names l b e.2)
+named_within o names (named.Concept c a) (row.Role k m l) n e which = absurd e
+named_within o names (named.Role p a b) (row.Concept k m) n e which = absurd e
+
+-- and their individuals have names
+pub individuals_within : (o : Terminology) (asserted : List NamedRow) (facts : Facts) → KeepsFacts o asserted facts → (n : ℕ) → IsNamed facts.rows n → n < length facts.individuals
+individuals_within o asserted facts k n (x, there, which) =
+    let found = k.stand.only x there in
+    named_within o facts.individuals found.0 x n found.2 which

@@ -11,5 +11,4 @@ pub mod ReasonDecisions
 pub mod MeaningLemmas
 pub mod InputLemmas
 pub mod CommandLemmas
-pub mod CompletedLemmas
 pub mod AnswerLemmas

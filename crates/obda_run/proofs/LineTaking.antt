@@ -1,7 +1,6 @@
 -- Laws of a draft that takes a line, by what the line says.
 use Rattle.std.proofs.Common.{◌≡◌, ℕ, ◌^◌, ◌<◌, ◌≤◌, inl, inr, List, [], ◌∷◌, ◌++◌, length, All, Contains, Option, Some, None, Bool, true, false, refl, sym, ◌∙◌, ap, subst}
 use Rattle.std.specs.Prelude.{IsSome, is_some, Err, MatchBool}
-use Rattle.std.specs.BTreeSet.{btree_set_len}
 use Rattle.std.specs.Option.{ForSome}
 use Rattle.host_io.specs.Causes.{raised}
 use Rattle.dl_base.specs.Ontology.{Terminology}
@@ -25,13 +24,13 @@ use Rattle.obda_run.specs.Lines.{line_of}
 use Rattle.obda_run.specs.Feeding.{StandsFor}
 use Rattle.obda_run.specs.Facts.{IsPlaceOf, KeepsFacts}
 use Rattle.obda_run.specs.declared.document.Draft.TheVariants as drafts
-use Rattle.obda_run.specs.Document.{Context, nothing_said, with_line, IsOutOfOrder, HasNewHead, AsksTooMuch, IsUnsafe, TooManyFacts, FirstOffence, rank_of}
+use Rattle.obda_run.specs.Document.{Context, nothing_said, with_line, IsOutOfOrder, AsksTooMuch, IsUnsafe, TooManyFacts, FirstOffence, rank_of}
 use Rattle.obda_run.specs.Drafting.{KeepsOntology, KeepsPartial, NextText, IsAskable, IsAskFault, LacksName, unknown_of}
 use Rattle.obda_run.specs.declared.facts.Facts.{Facts}
 use Rattle.obda_run.specs.declared.reason.Reason.{Reason}
 use Rattle.obda_run.specs.declared.reason.Reason.TheVariants as reason
 use Rattle.obda_run.specs.declared.document.Partial.{Partial}
-use Rattle.obda_run.proofs.ReasonLemmas.{NoneBelow, HoldsFor, none_misplaced, none_not_built, none_limit, none_large, none_unsafe, none_concept, none_role, none_facts, none_holds}
+use Rattle.obda_run.proofs.ReasonLemmas.{NoneBelow, HoldsFor, none_misplaced, none_limit, none_large, none_unsafe, none_concept, none_role, none_facts, none_holds}
 use Rattle.obda_run.proofs.OntologyLemmas.{ontology_more, ontology_same, axioms_fit, axioms_pass}
 use Rattle.obda_run.proofs.FactLemmas.{no_facts, some_facts, facts_of_none, facts_fit}
 use Rattle.dl_base.proofs.PlaceLemmas.{member_at}
@@ -85,8 +84,8 @@ module _ (said : Context) (o : Terminology) (k : KeepsOntology said o) where
   named_role (row.Role r a b) named unknown = named (λ there. unknown (subst (λ (names : List (List ℕ)). Contains names r) k.roles there))
 
 none_unknown_before : (said : Context) (r : NamedRow) → (IsOutOfOrder said (line.Fact r) → ⊥) → NoneBelow (HoldsFor said (line.Fact r)) (rank_of (unknown_of r))
-none_unknown_before said (row.Concept c a) ordered = none_concept said (line.Fact (row.Concept c a)) ordered (λ no'. no') (λ no'. no') (λ no'. no') (λ no'. no')
-none_unknown_before said (row.Role r a b) ordered = none_role said (line.Fact (row.Role r a b)) ordered (λ no'. no') (λ no'. no') (λ no'. no') (λ no'. no') (λ no'. no')
+none_unknown_before said (row.Concept c a) ordered = none_concept said (line.Fact (row.Concept c a)) ordered (λ no'. no') (λ no'. no') (λ no'. no')
+none_unknown_before said (row.Role r a b) ordered = none_role said (line.Fact (row.Role r a b)) ordered (λ no'. no') (λ no'. no') (λ no'. no') (λ no'. no')
 
 module _ (lines : List (List ℕ)) (text : List ℕ) (r : NamedRow) (p : Partial) (next : NextText lines text p) (says : IsDocLine text (line.Fact r)) (ordered : IsOutOfOrder next.keeps.said (line.Fact r) → ⊥) where
   lacking : LacksName p.ontology r → FirstOffence (lines ++ text ∷ []) (raised p.lines) (unknown_of r)
@@ -95,13 +94,13 @@ module _ (lines : List (List ℕ)) (text : List ℕ) (r : NamedRow) (p : Partial
   module _ (named : LacksName p.ontology r → ⊥) where
     passing : TooManyFacts (next.keeps.said.facts ++ r ∷ []) → FirstOffence (lines ++ text ∷ []) (raised p.lines) reason.TooManyFacts
     passing many = refused_by lines text (line.Fact r) p next says reason.TooManyFacts many
-        (none_facts next.keeps.said (line.Fact r) ordered (λ no'. no') (λ no'. no') (λ no'. no') (λ no'. no')
+        (none_facts next.keeps.said (line.Fact r) ordered (λ no'. no') (λ no'. no') (λ no'. no')
         (named_concept next.keeps.said p.ontology next.keeps.ontology r named) (named_role next.keeps.said p.ontology next.keeps.ontology r named))
 
     adding : (new : Facts) → KeepsFacts p.ontology (next.keeps.said.facts ++ r ∷ []) new
         → KeepsPartial (lines ++ text ∷ []) (record { ontology = p.ontology; facts = new; asked = p.asked; lines = raised p.lines })
     adding new facts = kept_more lines text (line.Fact r) p next says
-        (none_holds next.keeps.said (line.Fact r) ordered (λ no'. no') (λ no'. no') (λ no'. no') (λ no'. no')
+        (none_holds next.keeps.said (line.Fact r) ordered (λ no'. no') (λ no'. no') (λ no'. no')
         (named_concept next.keeps.said p.ontology next.keeps.ontology r named) (named_role next.keeps.said p.ontology next.keeps.ontology r named)
         (facts_fit p.ontology (next.keeps.said.facts ++ r ∷ []) new facts))
         _ refl
@@ -117,13 +116,13 @@ module _ (lines : List (List ℕ)) (text : List ℕ) (p : Partial) (next : NextT
   pub blank_more : IsDocLine text line.Blank → KeepsPartial (lines ++ text ∷ []) (record { ontology = p.ontology; facts = p.facts; asked = p.asked; lines = raised p.lines })
   unfolding said
   blank_more says = kept_more lines text line.Blank p next says
-      (none_holds said line.Blank (λ no'. no') (λ no'. no') (λ no'. no') (λ no'. no') (λ no'. no') (λ no'. no') (λ no'. no') (λ no'. no'))
+      (none_holds said line.Blank (λ no'. no') (λ no'. no') (λ no'. no') (λ no'. no') (λ no'. no') (λ no'. no') (λ no'. no'))
       _ refl next.keeps.ontology next.keeps.facts next.keeps.asked next.keeps.askable
 
   -- ---- one more axiom
 
   module _ (a : Statement) (says : IsDocLine text (line.Axiom a)) where
-    pub axiom_late : ((btree_set_len p.facts.rows ≡ 0) × (p.asked ≡ None) → ⊥) → FirstOffence (lines ++ text ∷ []) (raised p.lines) reason.Misplaced
+    pub axiom_late : ((length p.facts.rows ≡ 0) × (p.asked ≡ None) → ⊥) → FirstOffence (lines ++ text ∷ []) (raised p.lines) reason.Misplaced
     unfolding said
     axiom_late late = refused_by lines text (line.Axiom a) p next says reason.Misplaced (by (is_some p.asked) refl) (none_misplaced said (line.Axiom a))
       where
@@ -131,7 +130,7 @@ module _ (lines : List (List ℕ)) (text : List ℕ) (p : Partial) (next : NextT
         by true some = inr (asked_too p.asked next.keeps.said.query next.keeps.asked some)
         by false none = inl (some_facts p.ontology next.keeps.said.facts p.facts next.keeps.facts (λ zero. late (zero, is_none p.asked none)))
 
-    module _ (zero : btree_set_len p.facts.rows ≡ 0) (none : p.asked ≡ None) where
+    module _ (zero : length p.facts.rows ≡ 0) (none : p.asked ≡ None) where
       no_fact : next.keeps.said.facts ≡ []
       no_fact = no_facts p.ontology next.keeps.said.facts p.facts next.keeps.facts zero
 
@@ -139,25 +138,20 @@ module _ (lines : List (List ℕ)) (text : List ℕ) (p : Partial) (next : NextT
       in_order (inl some) = some no_fact
       in_order (inr some) = not_asked p.asked next.keeps.said.query next.keeps.asked (ap (λ (q : Option Question). is_some q) none) some
 
-      pub axiom_new : HasNewHead a → FirstOffence (lines ++ text ∷ []) (raised p.lines) reason.NotBuilt
+      pub axiom_passes : (w : Which) → Passes p.ontology a w → FirstOffence (lines ++ text ∷ []) (raised p.lines) reason.PassesLimit
       unfolding said
-      axiom_new new = refused_by lines text (line.Axiom a) p next says reason.NotBuilt new (none_not_built said (line.Axiom a) in_order)
+      axiom_passes w passes = refused_by lines text (line.Axiom a) p next says reason.PassesLimit (axioms_pass next.keeps.said p.ontology next.keeps.ontology a w passes)
+          (none_limit said (line.Axiom a) in_order)
 
-      module _ (old : HasNewHead a → ⊥) where
-        pub axiom_passes : (w : Which) → Passes p.ontology a w → FirstOffence (lines ++ text ∷ []) (raised p.lines) reason.PassesLimit
-        unfolding said
-        axiom_passes w passes = refused_by lines text (line.Axiom a) p next says reason.PassesLimit (axioms_pass next.keeps.said p.ontology next.keeps.ontology a w passes)
-            (none_limit said (line.Axiom a) in_order old)
-
-        pub axiom_more : (new : Terminology) → IsExtended p.ontology a new → KeepsPartial (lines ++ text ∷ []) (record { ontology = new; facts = p.facts; asked = p.asked; lines = raised p.lines })
-        unfolding said
-        axiom_more new extended = kept_more lines text (line.Axiom a) p next says
-            (none_holds said (line.Axiom a) in_order old (axioms_fit next.keeps.said p.ontology next.keeps.ontology a new extended) (λ no'. no') (λ no'. no') (λ no'. no') (λ no'. no') (λ no'. no'))
-            _ refl
-            (ontology_more next.keeps.said p.ontology next.keeps.ontology a new extended old)
-            (facts_of_none p.ontology new next.keeps.said.facts p.facts no_fact next.keeps.facts)
-            next.keeps.asked
-            (for_none (IsAskable new) p.asked none)
+      pub axiom_more : (new : Terminology) → IsExtended p.ontology a new → KeepsPartial (lines ++ text ∷ []) (record { ontology = new; facts = p.facts; asked = p.asked; lines = raised p.lines })
+      unfolding said
+      axiom_more new extended = kept_more lines text (line.Axiom a) p next says
+          (none_holds said (line.Axiom a) in_order (axioms_fit next.keeps.said p.ontology next.keeps.ontology a new extended) (λ no'. no') (λ no'. no') (λ no'. no') (λ no'. no') (λ no'. no'))
+          _ refl
+          (ontology_more next.keeps.said p.ontology next.keeps.ontology a new extended)
+          (facts_of_none p.ontology new next.keeps.said.facts p.facts no_fact next.keeps.facts)
+          next.keeps.asked
+          (for_none (IsAskable new) p.asked none)
 
   -- ---- one more fact
 
@@ -198,11 +192,11 @@ module _ (lines : List (List ℕ)) (text : List ℕ) (p : Partial) (next : NextT
 
       pub query_large : IsTooLarge q → FirstOffence (lines ++ text ∷ []) (raised p.lines) reason.TooLarge
       unfolding said
-      query_large large = refused_by lines text (line.Ask q) p next says reason.TooLarge large (none_large said (line.Ask q) query_order (λ no'. no') (λ no'. no'))
+      query_large large = refused_by lines text (line.Ask q) p next says reason.TooLarge large (none_large said (line.Ask q) query_order (λ no'. no'))
 
       pub query_unsafe : (IsTooLarge q → ⊥) → (v : List ℕ) → IsFirstUnbound q v → FirstOffence (lines ++ text ∷ []) (raised p.lines) reason.Unsafe
       unfolding said
-      query_unsafe small v first = refused_by lines text (line.Ask q) p next says reason.Unsafe (v, first) (none_unsafe said (line.Ask q) query_order (λ no'. no') (λ no'. no') small)
+      query_unsafe small v first = refused_by lines text (line.Ask q) p next says reason.Unsafe (v, first) (none_unsafe said (line.Ask q) query_order (λ no'. no') small)
 
       module _ (is : IsQuery q) where
         no_unbound : IsUnsafe (line.Ask q) → ⊥
@@ -211,7 +205,7 @@ module _ (lines : List (List ℕ)) (text : List ℕ) (p : Partial) (next : NextT
         pub query_concept : (name : List ℕ) → IsFirstFault p.ontology q.atoms (shape_errors.UnknownConcept name) → FirstOffence (lines ++ text ∷ []) (raised p.lines) reason.UnknownConcept
         unfolding said
         query_concept name fault = refused_by lines text (line.Ask q) p next says reason.UnknownConcept (unknown_concept next.keeps.said p.ontology next.keeps.ontology q name fault)
-            (none_concept said (line.Ask q) query_order (λ no'. no') (λ no'. no') (not_large q is) no_unbound)
+            (none_concept said (line.Ask q) query_order (λ no'. no') (not_large q is) no_unbound)
 
         -- the first unknown atom is one
         pub query_role : (name : List ℕ) → IsFirstFault p.ontology q.atoms (shape_errors.UnknownRole name) → FirstOffence (lines ++ text ∷ []) (raised p.lines) reason.UnknownRole
@@ -219,13 +213,13 @@ module _ (lines : List (List ℕ)) (text : List ℕ) (p : Partial) (next : NextT
         query_role name fault =
             let found = unknown_role next.keeps.said p.ontology next.keeps.ontology q name fault in
             refused_by lines text (line.Ask q) p next says reason.UnknownRole found
-            (none_role said (line.Ask q) query_order (λ no'. no') (λ no'. no') (not_large q is) no_unbound
+            (none_role said (line.Ask q) query_order (λ no'. no') (not_large q is) no_unbound
             (λ other. not_both_first next.keeps.said.axioms q other.0 found.0 other.1 found.1 found.2 other.2 found.3))
 
         pub query_more : All (IsKnown p.ontology) q.atoms → KeepsPartial (lines ++ text ∷ []) (record { ontology = p.ontology; facts = p.facts; asked = Some q; lines = raised p.lines })
         unfolding said
         query_more known = kept_more lines text (line.Ask q) p next says
-            (none_holds said (line.Ask q) query_order (λ no'. no') (λ no'. no') (not_large q is) no_unbound
+            (none_holds said (line.Ask q) query_order (λ no'. no') (not_large q is) no_unbound
             (λ found. none_unknown next.keeps.said p.ontology next.keeps.ontology q known (atom.Concept found.0 found.1) found.2)
             (λ found. none_unknown next.keeps.said p.ontology next.keeps.ontology q known (atom.Role found.0 found.1 found.2) found.3)
             (λ no'. no'))
@@ -264,7 +258,6 @@ module _ (lines : List (List ℕ)) (text : List ℕ) (p : Partial) (next : NextT
   ask_refused_late reason.Unsafe (d, says, both) some = ask_late lines text p next d says (unsafe_order d both.0 (asked_too p.asked next.keeps.said.query next.keeps.asked some))
   ask_refused_late reason.TooLong f some = absurd f
   ask_refused_late reason.Misplaced f some = absurd f
-  ask_refused_late reason.NotBuilt f some = absurd f
   ask_refused_late reason.PassesLimit f some = absurd f
   ask_refused_late reason.UnknownConcept f some = absurd f
   ask_refused_late reason.UnknownRole f some = absurd f
@@ -287,7 +280,6 @@ module _ (lines : List (List ℕ)) (text : List ℕ) (p : Partial) (next : NextT
   ask_refused reason.Unsafe (d, says, both) none = unsafe_now d says both.0 both.1 none
   ask_refused reason.TooLong f none = absurd f
   ask_refused reason.Misplaced f none = absurd f
-  ask_refused reason.NotBuilt f none = absurd f
   ask_refused reason.PassesLimit f none = absurd f
   ask_refused reason.UnknownConcept f none = absurd f
   ask_refused reason.UnknownRole f none = absurd f

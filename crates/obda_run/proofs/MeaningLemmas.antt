@@ -73,7 +73,7 @@ next_ontology : (before : Context) (o : Terminology) → KeepsOntology before o 
 next_ontology before o k text line.Blank accepts = (o, k)
 next_ontology before o k text (line.Axiom a) accepts =
     let new = extended_by o a (axiom_line_is text a accepts.says) (λ w passes. accepts.fine reason.PassesLimit (line.Axiom a, accepts.says, axioms_pass before o k a w passes)) in
-    (new.0, ontology_more before o k a new.0 new.1 (λ later. accepts.fine reason.NotBuilt (line.Axiom a, accepts.says, later)))
+    (new.0, ontology_more before o k a new.0 new.1)
 next_ontology before o k text (line.Fact r) accepts = (o, ontology_same before (with_line before (line.Fact r)) o refl k)
 next_ontology before o k text (line.Ask q) accepts = (o, ontology_same before (with_line before (line.Ask q)) o refl k)
 

@@ -19,8 +19,8 @@ use Rattle.dl_base.specs.declared.ontology.Which.{Which}
 use Rattle.dl_base.specs.declared.ontology.Which.TheVariants as which
 use Rattle.dl_base.proofs.RisingLemmas.{contains_first, contains_later, contains_cases}
 use Rattle.script_reader.specs.declared.doc_line.DocLine.TheVariants as line
-use Rattle.obda_run.specs.Document.{Context, nothing_said, with_line, concept_names, role_names, inclusions_in, IsNewHead, HasNewHead, TooManyAxioms, Makes, none as made_none, more as made_more}
-use Rattle.obda_run.specs.Drafting.{IsConceptHead, KeepsOntology}
+use Rattle.obda_run.specs.Document.{Context, nothing_said, with_line, concept_names, role_names, inclusions_in, TooManyAxioms, Makes, none as made_none, more as made_more}
+use Rattle.obda_run.specs.Drafting.{KeepsOntology}
 
 -- ---- members of joined lists
 
@@ -47,30 +47,11 @@ inclusions_more axioms a = joined_more (λ a. a.inclusions) axioms a
 
 -- ---- the inclusions that an axiom adds
 
-concept_head : (cs rs : List (List ℕ)) (n : NamedHead) (h : Head) → (IsNewHead n → ⊥) → NumbersHead cs rs n h → IsConceptHead h
-concept_head cs rs (named_head.Basic (named.Concept c)) (head.Basic (basic.Concept d)) old numbers = tt
-concept_head cs rs (named_head.Basic (named.Concept c)) (head.Basic (basic.Exists r)) old numbers = absurd numbers
-concept_head cs rs (named_head.Basic (named.Concept c)) head.Nothing old numbers = absurd numbers
-concept_head cs rs (named_head.Basic (named.Exists r)) h old numbers = absurd (old tt)
-concept_head cs rs named_head.Nothing h old numbers = absurd (old tt)
-
-added_built : (cs rs : List (List ℕ)) (more : List NamedInclusion) (added : List Inclusion) → ((i : NamedInclusion) → Contains more i → IsNewHead i.head → ⊥)
-    → AllZip (NumbersInclusion cs rs) more added → AllByRecursion (λ i. IsConceptHead i.head) added
-added_built cs rs [] [] old each = tt
-added_built cs rs [] (j ∷ added) old each = absurd each
-added_built cs rs (i ∷ more) [] old each = absurd each
-added_built cs rs (i ∷ more) (j ∷ added) old (first, rest) =
-    (concept_head cs rs i.head j.head (old i (contains_first i more)) first.head, added_built cs rs more added (λ k there. old k (contains_later i more k there)) rest)
-
 added_length : (cs rs : List (List ℕ)) (more : List NamedInclusion) (added : List Inclusion) → AllZip (NumbersInclusion cs rs) more added → length added ≡ length more
 added_length cs rs [] [] each = refl
 added_length cs rs [] (j ∷ added) each = absurd each
 added_length cs rs (i ∷ more) [] each = absurd each
 added_length cs rs (i ∷ more) (j ∷ added) (first, rest) = ap suc (added_length cs rs more added rest)
-
-both_built : (P : Inclusion → Type 0) (xs ys : List Inclusion) → AllByRecursion P xs → AllByRecursion P ys → AllByRecursion P (xs ++ ys)
-both_built P [] ys _ behind = behind
-both_built P (x ∷ xs) ys (first, rest) behind = (first, both_built P xs ys rest behind)
 
 long_later : (i : NamedInclusion) (is : List NamedInclusion) → (All (λ i. length i.body ≤ 8) (i ∷ is) → ⊥) → length i.body ≤ 8
     → ((All (λ i. length i.body ≤ 8) is → ⊥) → (j : NamedInclusion) × Contains is j × (8 < length j.body)) → (j : NamedInclusion) × Contains (i ∷ is) j × (8 < length j.body)
@@ -114,8 +95,8 @@ module _ (said : Context) (o : Terminology) (k : KeepsOntology said o) (a : Stat
         long all more = let short : length i.body ≤ 8 = subst (λ (j : NamedInclusion). length j.body ≤ 8) there.2 (all there.0 i there.1) in omega (arith, short, more)
 
     -- the ontology with the axiom
-    pub ontology_more : (HasNewHead a → ⊥) → KeepsOntology (with_line said (line.Axiom a)) new
-    ontology_more old = record {
+    pub ontology_more : KeepsOntology (with_line said (line.Axiom a)) new
+    ontology_more = record {
       makes = made_more a new k.makes extended;
       concepts = extended.concepts ∙ sym concepts_now;
       roles = extended.roles ∙ sym roles_now;
@@ -125,9 +106,6 @@ module _ (said : Context) (o : Terminology) (k : KeepsOntology said o) (a : Stat
         | inl before ↦ k.short i before
         | inr added ↦ short_added i added
       ];
-      built = subst (AllByRecursion (λ i. IsConceptHead i.head)) (sym extended.inclusions.last)
-          (both_built (λ i. IsConceptHead i.head) o.inclusions extended.inclusions.added k.built
-          (added_built new.concepts new.roles a.inclusions extended.inclusions.added (λ i there is. old (i, there, is)) extended.inclusions.each));
     }
 
     -- it passes no limit
@@ -150,7 +128,7 @@ module _ (said : Context) (o : Terminology) (k : KeepsOntology said o) (a : Stat
   axioms_pass which.Inclusions many = inr (inr (inr (subst (λ (n : ℕ). 4096 < n) (sym count_now) many)))
 
 pub ontology_none : (o : Terminology) → o ≡ record { concepts = []; roles = []; inclusions = [] } → KeepsOntology nothing_said o
-ontology_none o e = subst (KeepsOntology nothing_said) (sym e) (record { makes = made_none; concepts = refl; roles = refl; count = refl; short = λ i there. omega (arith, there.1); built = tt })
+ontology_none o e = subst (KeepsOntology nothing_said) (sym e) (record { makes = made_none; concepts = refl; roles = refl; count = refl; short = λ i there. omega (arith, there.1) })
 
 -- what is kept of the ontology says nothing of the facts and the query
 pub ontology_same : (said other : Context) (o : Terminology) → other.axioms ≡ said.axioms → KeepsOntology said o → KeepsOntology other o
@@ -160,5 +138,4 @@ ontology_same said other o same k = record {
   roles = k.roles ∙ ap role_names (sym same);
   count = k.count ∙ ap (λ (axioms : List Statement). length (inclusions_in axioms)) (sym same);
   short = subst (λ (axioms : List Statement). (i : NamedInclusion) → Contains (inclusions_in axioms) i → length i.body ≤ 8) (sym same) k.short;
-  built = k.built;
 }

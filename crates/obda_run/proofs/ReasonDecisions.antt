@@ -31,7 +31,7 @@ use Rattle.script_reader.specs.DocLines.{IsDocLine}
 use Rattle.script_reader.specs.declared.doc_line.DocLine.{DocLine}
 use Rattle.script_reader.specs.declared.doc_line.DocLine.TheVariants as line
 use Rattle.script_reader.proofs.LineDecisions.{decided_line}
-use Rattle.obda_run.specs.Document.{Context, concept_names, role_names, inclusions_in, IsOutOfOrder, IsNewHead, IsNotBuilt, TooManyAxioms, PassesLimit, AsksTooMuch, IsUnsafe, vocabulary, IsFirstUnknown, NamesUnknownConcept, NamesUnknownRole, TooManyFacts, MakesTooMany, rank_of, Offends, Accepts}
+use Rattle.obda_run.specs.Document.{Context, concept_names, role_names, inclusions_in, IsOutOfOrder, TooManyAxioms, PassesLimit, AsksTooMuch, IsUnsafe, vocabulary, IsFirstUnknown, NamesUnknownConcept, NamesUnknownRole, TooManyFacts, MakesTooMany, rank_of, Offends, Accepts}
 use Rattle.obda_run.specs.Facts.{names_in}
 use Rattle.obda_run.specs.declared.reason.Reason.{Reason}
 use Rattle.obda_run.specs.declared.reason.Reason.TheVariants as reason
@@ -248,17 +248,6 @@ decide_order before (line.Axiom a) = decide_either (decide_filled before.facts) 
 decide_order before (line.Fact r) = decide_test (is_some before.query)
 decide_order before (line.Ask q) = decide_test (is_some before.query)
 
-decide_head : (h : NamedHead) → Decided (IsNewHead h)
-decide_head (named_head.Basic (named.Concept name)) = never
-decide_head (named_head.Basic (named.Exists r)) = inl tt
-decide_head named_head.Nothing = inl tt
-
-decide_built : (d : DocLine) → Decided (IsNotBuilt d)
-decide_built line.Blank = never
-decide_built (line.Axiom a) = decide_some (λ i. IsNewHead i.head) (λ i. decide_head i.head) a.inclusions
-decide_built (line.Fact r) = never
-decide_built (line.Ask q) = never
-
 decide_axioms : (axioms : List Statement) → Decided (TooManyAxioms axioms)
 decide_axioms axioms =
     decide_either (decide_some (λ (i : NamedInclusion). 8 < length i.body) (λ i. decide_below 8 (length i.body)) (inclusions_in axioms))
@@ -306,7 +295,6 @@ decide_many before (line.Ask q) = never
 decide_reason : (before : Context) (d : DocLine) (why : Reason) → Decided (HoldsFor before d why)
 decide_reason before d reason.TooLong = never
 decide_reason before d reason.Misplaced = decide_order before d
-decide_reason before d reason.NotBuilt = decide_built d
 decide_reason before d reason.PassesLimit = decide_limit before d
 decide_reason before d reason.TooLarge = decide_asks d
 decide_reason before d reason.Unsafe = decide_safe d
@@ -330,9 +318,9 @@ module _ (H : Reason → Type 0) (decide : (why : Reason) → Decided (H why)) w
 
   first_reason : FirstReason
   first_reason =
-      step reason.TooLong (none_first H) (λ a. step reason.Misplaced a (λ b. step reason.NotBuilt b (λ c. step reason.PassesLimit c (λ d.
+      step reason.TooLong (none_first H) (λ a. step reason.Misplaced a (λ b. step reason.PassesLimit b (λ d.
       step reason.TooLarge d (λ e. step reason.Unsafe e (λ f. step reason.UnknownConcept f (λ g. step reason.UnknownRole g (λ h.
-      step reason.TooManyFacts h (λ none. inr (λ why holds. none why (few_ranks why) holds))))))))))
+      step reason.TooManyFacts h (λ none. inr (λ why holds. none why (few_ranks why) holds)))))))))
 
 -- a line is accepted, or it offends
 abbrev pub Settled : Context → List ℕ → Type 0

@@ -4,7 +4,7 @@ use Rattle.std.proofs.lemmas.Bool.{cases_order}
 use Rattle.script_reader.specs.DocLines.{IsDocLine}
 use Rattle.script_reader.specs.declared.doc_line.DocLine.{DocLine}
 use Rattle.script_reader.proofs.LineRules.{line_once}
-use Rattle.obda_run.specs.Document.{Context, IsOutOfOrder, IsNotBuilt, PassesLimit, AsksTooMuch, IsUnsafe, NamesUnknownConcept, NamesUnknownRole, MakesTooMany, SaysWhere, HoldsOf, rank_of, Offends}
+use Rattle.obda_run.specs.Document.{Context, IsOutOfOrder, PassesLimit, AsksTooMuch, IsUnsafe, NamesUnknownConcept, NamesUnknownRole, MakesTooMany, SaysWhere, HoldsOf, rank_of, Offends}
 use Rattle.obda_run.specs.declared.reason.Reason.{Reason}
 use Rattle.obda_run.specs.declared.reason.Reason.TheVariants as reason
 
@@ -13,19 +13,17 @@ use Rattle.obda_run.specs.declared.reason.Reason.TheVariants as reason
 reason_at : ℕ → Reason
 reason_at zero = reason.TooLong
 reason_at (suc zero) = reason.Misplaced
-reason_at (suc (suc zero)) = reason.NotBuilt
-reason_at (suc (suc (suc zero))) = reason.PassesLimit
-reason_at (suc (suc (suc (suc zero)))) = reason.TooLarge
-reason_at (suc (suc (suc (suc (suc zero))))) = reason.Unsafe
-reason_at (suc (suc (suc (suc (suc (suc zero)))))) = reason.UnknownConcept
-reason_at (suc (suc (suc (suc (suc (suc (suc zero))))))) = reason.UnknownRole
-reason_at (suc (suc (suc (suc (suc (suc (suc (suc n)))))))) = reason.TooManyFacts
+reason_at (suc (suc zero)) = reason.PassesLimit
+reason_at (suc (suc (suc zero))) = reason.TooLarge
+reason_at (suc (suc (suc (suc zero)))) = reason.Unsafe
+reason_at (suc (suc (suc (suc (suc zero))))) = reason.UnknownConcept
+reason_at (suc (suc (suc (suc (suc (suc zero)))))) = reason.UnknownRole
+reason_at (suc (suc (suc (suc (suc (suc (suc n))))))) = reason.TooManyFacts
 
 at_rank : (why : Reason) → reason_at (rank_of why) ≡ why
 unfolding reason_at
 at_rank reason.TooLong = refl
 at_rank reason.Misplaced = refl
-at_rank reason.NotBuilt = refl
 at_rank reason.PassesLimit = refl
 at_rank reason.TooLarge = refl
 at_rank reason.Unsafe = refl
@@ -37,10 +35,9 @@ at_rank reason.TooManyFacts = refl
 rank_once : (why other : Reason) → rank_of why ≡ rank_of other → why ≡ other
 rank_once why other same = sym (at_rank why) ∙ ap reason_at same ∙ at_rank other
 
-pub few_ranks : (why : Reason) → rank_of why < 9
+pub few_ranks : (why : Reason) → rank_of why < 8
 few_ranks reason.TooLong = omega arith
 few_ranks reason.Misplaced = omega arith
-few_ranks reason.NotBuilt = omega arith
 few_ranks reason.PassesLimit = omega arith
 few_ranks reason.TooLarge = omega arith
 few_ranks reason.Unsafe = omega arith
@@ -76,7 +73,6 @@ reason_once before text why other x y = elim (cases_order (rank_of why) (rank_of
 abbrev pub HoldsFor : Context → DocLine → Reason → Type 0
 HoldsFor before d reason.TooLong = ⊥
 HoldsFor before d reason.Misplaced = IsOutOfOrder before d
-HoldsFor before d reason.NotBuilt = IsNotBuilt d
 HoldsFor before d reason.PassesLimit = PassesLimit before d
 HoldsFor before d reason.TooLarge = AsksTooMuch d
 HoldsFor before d reason.Unsafe = IsUnsafe d
@@ -92,7 +88,6 @@ module _ (before : Context) (text : List ℕ) (d : DocLine) (says : IsDocLine te
   holds_for reason.TooLong h = omega (arith, h, short)
   holds_for reason.Misplaced (inl nothing) = absurd (nothing d says)
   holds_for reason.Misplaced (inr h) = said_here (IsOutOfOrder before) h
-  holds_for reason.NotBuilt h = said_here IsNotBuilt h
   holds_for reason.PassesLimit h = said_here (PassesLimit before) h
   holds_for reason.TooLarge h = said_here AsksTooMuch h
   holds_for reason.Unsafe h = said_here IsUnsafe h
@@ -103,7 +98,6 @@ module _ (before : Context) (text : List ℕ) (d : DocLine) (says : IsDocLine te
   holds_of : (why : Reason) → HoldsFor before d why → HoldsOf before text why
   holds_of reason.TooLong h = absurd h
   holds_of reason.Misplaced h = inr (d, says, h)
-  holds_of reason.NotBuilt h = (d, says, h)
   holds_of reason.PassesLimit h = (d, says, h)
   holds_of reason.TooLarge h = (d, says, h)
   holds_of reason.Unsafe h = (d, says, h)
@@ -121,21 +115,18 @@ module _ (before : Context) (d : DocLine) where
   pub none_misplaced : NoneBelow (HoldsFor before d) (rank_of reason.Misplaced)
   none_misplaced = none_next (HoldsFor before d) reason.TooLong (none_first (HoldsFor before d)) (λ no. no)
 
-  pub none_not_built : (IsOutOfOrder before d → ⊥) → NoneBelow (HoldsFor before d) (rank_of reason.NotBuilt)
-  none_not_built ordered = none_next (HoldsFor before d) reason.Misplaced none_misplaced ordered
+  pub none_limit : (IsOutOfOrder before d → ⊥) → NoneBelow (HoldsFor before d) (rank_of reason.PassesLimit)
+  none_limit ordered = none_next (HoldsFor before d) reason.Misplaced none_misplaced ordered
 
-  pub none_limit : (IsOutOfOrder before d → ⊥) → (IsNotBuilt d → ⊥) → NoneBelow (HoldsFor before d) (rank_of reason.PassesLimit)
-  none_limit ordered built = none_next (HoldsFor before d) reason.NotBuilt (none_not_built ordered) built
+  pub none_large : (IsOutOfOrder before d → ⊥) → (PassesLimit before d → ⊥) → NoneBelow (HoldsFor before d) (rank_of reason.TooLarge)
+  none_large ordered fits = none_next (HoldsFor before d) reason.PassesLimit (none_limit ordered) fits
 
-  pub none_large : (IsOutOfOrder before d → ⊥) → (IsNotBuilt d → ⊥) → (PassesLimit before d → ⊥) → NoneBelow (HoldsFor before d) (rank_of reason.TooLarge)
-  none_large ordered built fits = none_next (HoldsFor before d) reason.PassesLimit (none_limit ordered built) fits
+  pub none_unsafe : (IsOutOfOrder before d → ⊥) → (PassesLimit before d → ⊥) → (AsksTooMuch d → ⊥) → NoneBelow (HoldsFor before d) (rank_of reason.Unsafe)
+  none_unsafe ordered fits small = none_next (HoldsFor before d) reason.TooLarge (none_large ordered fits) small
 
-  pub none_unsafe : (IsOutOfOrder before d → ⊥) → (IsNotBuilt d → ⊥) → (PassesLimit before d → ⊥) → (AsksTooMuch d → ⊥) → NoneBelow (HoldsFor before d) (rank_of reason.Unsafe)
-  none_unsafe ordered built fits small = none_next (HoldsFor before d) reason.TooLarge (none_large ordered built fits) small
-
-  module _ (ordered : IsOutOfOrder before d → ⊥) (built : IsNotBuilt d → ⊥) (fits : PassesLimit before d → ⊥) (small : AsksTooMuch d → ⊥) (safe : IsUnsafe d → ⊥) where
+  module _ (ordered : IsOutOfOrder before d → ⊥) (fits : PassesLimit before d → ⊥) (small : AsksTooMuch d → ⊥) (safe : IsUnsafe d → ⊥) where
     pub none_concept : NoneBelow (HoldsFor before d) (rank_of reason.UnknownConcept)
-    none_concept = none_next (HoldsFor before d) reason.Unsafe (none_unsafe ordered built fits small) safe
+    none_concept = none_next (HoldsFor before d) reason.Unsafe (none_unsafe ordered fits small) safe
 
     pub none_role : (NamesUnknownConcept before d → ⊥) → NoneBelow (HoldsFor before d) (rank_of reason.UnknownRole)
     none_role concepts = none_next (HoldsFor before d) reason.UnknownConcept none_concept concepts
@@ -160,7 +151,6 @@ offends_syntax before text short none = record { holds = inl none; first = first
     first : (other : Reason) → rank_of other < 1 → HoldsOf before text other → ⊥
     first reason.TooLong below h = omega (arith, h, short)
     first reason.Misplaced below h = omega (arith, below)
-    first reason.NotBuilt below h = omega (arith, below)
     first reason.PassesLimit below h = omega (arith, below)
     first reason.TooLarge below h = omega (arith, below)
     first reason.Unsafe below h = omega (arith, below)

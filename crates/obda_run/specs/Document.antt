@@ -60,21 +60,6 @@ IsOutOfOrder before (line.Axiom a) = (before.facts ≢ []) ⊎ IsSome before.que
 IsOutOfOrder before (line.Fact r) = IsSome before.query
 IsOutOfOrder before (line.Ask q) = IsSome before.query
 
--- a head that isn't built yet: that there is a successor, or nothing
-abbrev pub IsNewHead : NamedHead → Type 0
-IsNewHead (named_head.Basic (named.Concept name)) = ⊥
-IsNewHead (named_head.Basic (named.Exists r)) = Unit {0}
-IsNewHead named_head.Nothing = Unit {0}
-
-abbrev pub HasNewHead : Statement → Type 0
-HasNewHead a = (i : NamedInclusion) × Contains a.inclusions i × IsNewHead i.head
-
-abbrev pub IsNotBuilt : DocLine → Type 0
-IsNotBuilt line.Blank = ⊥
-IsNotBuilt (line.Axiom a) = HasNewHead a
-IsNotBuilt (line.Fact r) = ⊥
-IsNotBuilt (line.Ask q) = ⊥
-
 -- the axioms have a body of more than 8 members, or more than 512 concept names, 256 role names or 4,096 inclusions
 abbrev pub HasLongBody : List Statement → Type 0
 HasLongBody axioms = (i : NamedInclusion) × Contains (inclusions_in axioms) i × (8 < length i.body)
@@ -151,7 +136,6 @@ SaysWhere text P = (d : DocLine) × IsDocLine text d × P d
 abbrev pub HoldsOf : Context → List ℕ → Reason → Type 0
 HoldsOf before text reason.TooLong = 4096 < length text
 HoldsOf before text reason.Misplaced = ((d : DocLine) → IsDocLine text d → ⊥) ⊎ SaysWhere text (IsOutOfOrder before)
-HoldsOf before text reason.NotBuilt = SaysWhere text IsNotBuilt
 HoldsOf before text reason.PassesLimit = SaysWhere text (PassesLimit before)
 HoldsOf before text reason.TooLarge = SaysWhere text AsksTooMuch
 HoldsOf before text reason.Unsafe = SaysWhere text IsUnsafe
@@ -163,13 +147,12 @@ HoldsOf before text reason.TooManyFacts = SaysWhere text (MakesTooMany before)
 abbrev pub rank_of : Reason → ℕ
 rank_of reason.TooLong = 0
 rank_of reason.Misplaced = 1
-rank_of reason.NotBuilt = 2
-rank_of reason.PassesLimit = 3
-rank_of reason.TooLarge = 4
-rank_of reason.Unsafe = 5
-rank_of reason.UnknownConcept = 6
-rank_of reason.UnknownRole = 7
-rank_of reason.TooManyFacts = 8
+rank_of reason.PassesLimit = 2
+rank_of reason.TooLarge = 3
+rank_of reason.Unsafe = 4
+rank_of reason.UnknownConcept = 5
+rank_of reason.UnknownRole = 6
+rank_of reason.TooManyFacts = 7
 
 -- the line offends, and this is the first reason
 pub record Offends (before : Context) (text : List ℕ) (why : Reason) : Type 0 where
@@ -203,7 +186,6 @@ pub record FirstOffence (lines : List (List ℕ)) (n : ℕ) (why : Reason) : Typ
 abbrev pub code_of : Reason → ℕ
 code_of reason.TooLong = 2
 code_of reason.Misplaced = 1
-code_of reason.NotBuilt = 99
 code_of reason.PassesLimit = 5
 code_of reason.TooLarge = 16
 code_of reason.Unsafe = 17

@@ -4,7 +4,10 @@ use Rattle.std.specs.Option.{ForSome}
 use Rattle.std.specs.List.{AllByRecursion}
 use Rattle.dl_base.specs.Ontology.{Terminology}
 use Rattle.dl_base.specs.Query.{Question, IsQuery}
-use Rattle.dl_base.specs.Replies.{IsReply, Answers}
+use Rattle.dl_base.specs.Replies.{Replied, Answers, Inconsistent, IsReply}
+use Rattle.clash_report.specs.Report.{IsNamedClash}
+use Rattle.reply_text.specs.declared.reply.Reply.{Reply}
+use Rattle.reply_text.specs.declared.reply.Reply.TheVariants as shown
 use Rattle.dl_base.specs.declared.concept.Basic.TheVariants as basic
 use Rattle.dl_base.specs.declared.concept.Head.{Head}
 use Rattle.dl_base.specs.declared.concept.Head.TheVariants as head
@@ -13,7 +16,7 @@ use Rattle.dl_base.specs.declared.row.NamedRow.{NamedRow}
 use Rattle.dl_base.specs.declared.row.NamedRow.TheVariants as row
 use Rattle.query_shape.specs.ShapeFault.{IsKnown}
 use Rattle.script_reader.specs.DocLines.{IsDocLine, IsFit}
-use Rattle.obda_run.specs.Document.{Context, nothing_said, Accepted, FirstOffence, Makes, concept_names, role_names, inclusions_in, IsNewHead, AsksTooMuch, IsUnsafe, SaysWhere, Means, Refused as IsRefused, Says}
+use Rattle.obda_run.specs.Document.{Context, nothing_said, Accepted, FirstOffence, Makes, concept_names, role_names, inclusions_in, AsksTooMuch, IsUnsafe, SaysWhere, Means, Refused as IsRefused, Says}
 use Rattle.obda_run.specs.Facts.{KeepsFacts}
 use Rattle.script_reader.specs.declared.doc_line.DocLine.{DocLine}
 use Rattle.obda_run.specs.declared.reason.Reason.{Reason}
@@ -25,20 +28,13 @@ use Rattle.obda_run.specs.declared.document.Document.{Document}
 use Rattle.obda_run.specs.declared.status.Status.{Status}
 use Rattle.obda_run.specs.declared.status.Status.TheVariants as status
 
--- the head is a concept name
-abbrev pub IsConceptHead : Head → Type 0
-IsConceptHead (head.Basic (basic.Concept c)) = Unit {0}
-IsConceptHead (head.Basic (basic.Exists r)) = ⊥
-IsConceptHead head.Nothing = ⊥
-
--- the ontology is that of the axioms, and each head is a concept name
+-- the ontology is that of the axioms
 pub record KeepsOntology (said : Context) (o : Terminology) : Type 0 where
   pub makes : Makes said.axioms o
   pub concepts : o.concepts ≡ concept_names said.axioms
   pub roles : o.roles ≡ role_names said.axioms
   pub count : length o.inclusions ≡ length (inclusions_in said.axioms)
   pub short : (i : NamedInclusion) → Contains (inclusions_in said.axioms) i → length i.body ≤ 8
-  pub built : AllByRecursion (λ i. IsConceptHead i.head) o.inclusions
 
 -- a query within the limits, whose names the ontology has
 pub record IsAskable (o : Terminology) (q : Question) : Type 0 where
@@ -78,15 +74,10 @@ IsAskFault text reason.TooLarge = SaysWhere text AsksTooMuch
 IsAskFault text reason.Unsafe = SaysWhere text (λ d. IsUnsafe d × (AsksTooMuch d → ⊥))
 IsAskFault text reason.TooLong = ⊥
 IsAskFault text reason.Misplaced = ⊥
-IsAskFault text reason.NotBuilt = ⊥
 IsAskFault text reason.PassesLimit = ⊥
 IsAskFault text reason.UnknownConcept = ⊥
 IsAskFault text reason.UnknownRole = ⊥
 IsAskFault text reason.TooManyFacts = ⊥
-
--- an inclusion has a head that isn't built yet
-abbrev pub HasNewHeadIn : List NamedInclusion → Type 0
-HasNewHeadIn inclusions = (i : NamedInclusion) × Contains inclusions i × IsNewHead i.head
 
 -- the ontology lacks the concept or the role of the row
 abbrev pub LacksName : Terminology → NamedRow → Type 0
@@ -120,9 +111,30 @@ Finishes lines (Err (status.Damaged area at)) = ⊥
 Finishes lines (Err status.NoMemory) = ⊥
 Finishes lines (Err status.InputTooLarge) = ⊥
 
--- the keys are the reply to the document of these lines
-pub record HasReply (lines : List (List ℕ)) (o : Terminology) (keys : List (List (List ℕ))) : Type 0 where
+-- the reply by names is that one: the same keys, or the same clash
+abbrev pub IsReplyShown : Terminology → Replied → Reply → Type 0
+IsReplyShown o (Answers keys) (shown.Answers these) = these ≡ keys
+IsReplyShown o (Inconsistent p) (shown.Inconsistent c) = IsNamedClash o p c
+IsReplyShown o (Answers keys) shown.Done = ⊥
+IsReplyShown o (Answers keys) (shown.Committed number added removed) = ⊥
+IsReplyShown o (Answers keys) (shown.Loaded inclusions) = ⊥
+IsReplyShown o (Answers keys) (shown.Reopened transactions) = ⊥
+IsReplyShown o (Answers keys) shown.Consistent = ⊥
+IsReplyShown o (Answers keys) (shown.Inconsistent c) = ⊥
+IsReplyShown o (Answers keys) (shown.Error e) = ⊥
+IsReplyShown o (Inconsistent p) shown.Done = ⊥
+IsReplyShown o (Inconsistent p) (shown.Committed number added removed) = ⊥
+IsReplyShown o (Inconsistent p) (shown.Loaded inclusions) = ⊥
+IsReplyShown o (Inconsistent p) (shown.Reopened transactions) = ⊥
+IsReplyShown o (Inconsistent p) (shown.Answers keys) = ⊥
+IsReplyShown o (Inconsistent p) shown.Consistent = ⊥
+IsReplyShown o (Inconsistent p) (shown.Error e) = ⊥
+
+-- it is the reply to the document of these lines
+pub record HasReply (lines : List (List ℕ)) (o : Terminology) (shown : Reply) : Type 0 where
   pub rows : List NamedRow
   pub query : Question
   pub says : Says lines o rows query
-  pub reply : IsReply o rows query (Answers keys)
+  pub reply : Replied
+  pub is_reply : IsReply o rows query reply
+  pub is_shown : IsReplyShown o reply shown

@@ -3,8 +3,7 @@ pub mod Lines
 pub mod Feeding
 pub mod Document
 pub mod Facts
-pub mod Completed
-pub mod Text
+pub mod Sound
 pub mod Drafting
 pub mod Run
 pub mod DocumentLaws

@@ -4,13 +4,14 @@ use Rattle.std.specs.Option.{ForSome}
 use Rattle.host_io.specs.Host.{ShowsFront}
 use Rattle.dl_base.specs.Ontology.{Terminology}
 use Rattle.dl_base.specs.Query.{Question}
-use Rattle.dl_base.specs.Replies.{IsReply, Answers}
+use Rattle.dl_base.specs.Replies.{Replied, IsReply}
 use Rattle.dl_base.specs.declared.row.NamedRow.{NamedRow}
 use Rattle.obda_run.specs.Lines.{AreLines, IsCut, line_of}
 use Rattle.obda_run.specs.Feeding.{kept}
 use Rattle.obda_run.specs.Document.{IsDocument, Asks, Refused as IsRefused}
-use Rattle.obda_run.specs.Drafting.{KeepsDraft, IsWhole}
-use Rattle.obda_run.specs.Text.{answers_text}
+use Rattle.obda_run.specs.Drafting.{KeepsDraft, IsReplyShown, IsWhole}
+use Rattle.reply_text.specs.ReplyText.{text_of_reply}
+use Rattle.reply_text.specs.declared.reply.Reply.{Reply}
 use Rattle.obda_run.specs.declared.document.Document.{Document}
 use Rattle.obda_run.specs.declared.document.Draft.{Draft}
 use Rattle.obda_run.specs.declared.status.Status.{Status}
@@ -26,9 +27,11 @@ pub record RepliesTo (bytes text : List ℕ) : Type 0 where
   pub rows : List NamedRow
   pub query : Question
   pub document : IsDocument bytes (Asks ontology rows query)
-  pub keys : List (List (List ℕ))
-  pub reply : IsReply ontology rows query (Answers keys)
-  pub text_is : text ≡ answers_text keys
+  pub reply : Replied
+  pub is_reply : IsReply ontology rows query reply
+  pub shown : Reply
+  pub is_shown : IsReplyShown ontology reply shown
+  pub text_is : text ≡ text_of_reply shown
 
 -- a front of the input was read, and this rest is left
 pub record Reads (input : List ℕ) (left : Option (List ℕ)) (read rest : List ℕ) : Type 0 where

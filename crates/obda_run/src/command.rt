@@ -1,21 +1,22 @@
 //! The top call.
-ghost use Rattle.std.specs.Prelude.{◌≡◌, ◌≢◌, ◌<◌, ◌≤◌, ◌⊎◌, ◌↔◌, ℕ, List, IsTrue, codes, length, map, string_bytes};
+ghost use Rattle.std.specs.Prelude.{◌≡◌, ◌≢◌, ◌<◌, ◌≤◌, ◌⊎◌, ◌↔◌, ℕ, List, IfOk, IsTrue, codes, length, map, string_bytes};
 ghost use Rattle.std.specs.Option.{ForSome};
 ghost use Rattle.host_io.specs.Causes.{Rose};
 ghost use Rattle.dl_base.specs.Ontology.{Terminology};
 ghost use Rattle.dl_base.specs.Query.{Question};
 ghost use Rattle.dl_base.specs.declared.row.NamedRow.{NamedRow};
-ghost use Rattle.obda_run.specs.Completed.{IsSound};
+ghost use Rattle.obda_run.specs.Sound.{IsSound};
 ghost use Rattle.obda_run.specs.Document.{IsDocument, Refused, Asks};
+ghost use Rattle.reply_text.specs.ReplyText.{text_of_reply};
 ghost use Rattle.obda_run.specs.Run.{IsAnswer, IsDocumentOf, Ran, Replies};
 
-use crate::answers::certain_answers;
+use crate::answers::document_reply;
 use crate::document::Document;
 use crate::input::read_document;
-use crate::reply::answers_text;
 use crate::status::Status;
 use host_io::{Failed, Host, Source};
-use std::alloc::Global;
+use reply_text::{Reply, reply_bytes};
+use std::alloc::{AllocError, Global};
 use std::marker::Brand;
 use std::sync::ledger::Blank;
 
@@ -100,14 +101,23 @@ fn reply<H: Host>(alloc: Global, host: &mut H, document: &Document) -> Status
     ensures disk_faults { H.disk_faults host.new ≡ H.disk_faults host.old }
     ensures replies { (read : List ℕ) → IsDocumentOf read document.now → Replies result read (H.printed host.old) (H.printed host.new) }
 {
-    let Ok(keys) = certain_answers::<Brand>(alloc, document, Blank::new(1)) else {
+    let Ok(shown) = document_reply::<Brand>(alloc, document, Blank::new(1)) else {
         return Status::NoMemory;
     };
-    let Ok(text) = answers_text(alloc, keys.items()) else {
+    let Ok(text) = text_of(alloc, &shown) else {
         return Status::NoMemory;
     };
     match host.print(text.as_slice()) {
         Ok(()) => Status::Done,
         Err(Failed) => Status::PrintFault,
     }
+}
+
+/// The text of the reply.
+fn text_of(alloc: Global, shown: &Reply) -> Result<Vec<u8>, AllocError>
+    ensures { IfOk result (λ text. text.items ≡ text_of_reply shown.now) }
+{
+    let mut text = Vec::new(alloc);
+    reply_bytes(shown, &mut text)?;
+    Ok(text)
 }

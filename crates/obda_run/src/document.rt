@@ -1,11 +1,9 @@
 //! A document, as far as its lines are read.
 ghost use Rattle.std.specs.Prelude.{◌≡◌, ◌<◌, ◌≤◌, ◌^◌, ◌++◌, ◌∷◌, [], ◌↔◌, IsTrue, IfOk, IfErr, None, List, ℕ, length, MatchOption};
-ghost use Rattle.std.specs.BTreeSet.{btree_set_len};
 ghost use Rattle.host_io.specs.Causes.{raised};
 ghost use Rattle.dl_base.specs.Ontology.{IsTerminology};
 ghost use Rattle.obda_run.specs.Feeding.{StandsFor};
-ghost use Rattle.obda_run.specs.Document.{IsNewHead};
-ghost use Rattle.obda_run.specs.Drafting.{Finishes, HasNewHeadIn, IsAskFault, KeepsDraft, KeepsPartial, LacksName, NextLine, NextText, unknown_of};
+ghost use Rattle.obda_run.specs.Drafting.{Finishes, IsAskFault, KeepsDraft, KeepsPartial, LacksName, NextLine, NextText, unknown_of};
 ghost use Rattle.obda_run.specs.Facts.{IsPlaceOf};
 ghost use Rattle.obda_run.specs.Run.{IsFinal};
 
@@ -13,9 +11,7 @@ use crate::facts::Facts;
 use crate::lines::OpenLine;
 use crate::reason::Reason;
 use crate::status::Status;
-use dl_base::{
-    Axiom, ExtendError, NamedBasic, NamedHead, NamedInclusion, NamedRow, Ontology, Query,
-};
+use dl_base::{Axiom, ExtendError, NamedRow, Ontology, Query};
 use query_shape::{ShapeError, shape};
 use script_reader::{CommandError, DocLine, read_doc_line};
 use std::alloc::{AllocError, Global};
@@ -172,7 +168,7 @@ impl Partial {
 
     /// Whether an axiom may stand here: no fact and no query stands before it.
     fn takes_axioms(&self) -> bool
-        ensures { IsTrue result ↔ ((btree_set_len self.now.facts.rows ≡ 0) × (self.now.asked ≡ None)) }
+        ensures { IsTrue result ↔ ((length self.now.facts.rows ≡ 0) × (self.now.asked ≡ None)) }
     {
         self.facts.is_empty() && self.asked.is_none()
     }
@@ -183,9 +179,6 @@ impl Partial {
     {
         if !self.takes_axioms() {
             return Ok(self.refused(Reason::Misplaced));
-        }
-        if has_new_head(added.inclusions()) {
-            return Ok(self.refused(Reason::NotBuilt));
         }
         let Partial {
             ontology,
@@ -257,24 +250,6 @@ impl Partial {
         } else {
             self.refused(reason)
         }
-    }
-}
-
-/// Whether an inclusion has a head that isn't built yet.
-fn has_new_head(inclusions: &[NamedInclusion]) -> bool
-    ensures { IsTrue result ↔ HasNewHeadIn inclusions.now }
-{
-    inclusions.iter().any(|i| is_new(&i.head))
-}
-
-/// Whether the head says that there is a successor, or nothing.
-fn is_new(head: &NamedHead) -> bool
-    ensures { IsTrue result ↔ IsNewHead head.now }
-{
-    match head {
-        NamedHead::Basic(NamedBasic::Concept(_)) => false,
-        NamedHead::Basic(NamedBasic::Exists(_)) => true,
-        NamedHead::Nothing => true,
     }
 }
 

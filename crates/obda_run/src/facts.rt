@@ -1,18 +1,19 @@
 //! The facts of a document, by numbers.
 ghost use Rattle.std.specs.Prelude.{◌≡◌, ◌≢◌, ◌≤◌, ◌↔◌, ◌++◌, ◌∷◌, [], IsTrue, IfOk, OnOk, MatchBool, List, AllPairs, length};
-ghost use Rattle.std.specs.BTreeSet.{IsEmpty, btree_set_len};
+ghost use Rattle.assert_tables.specs.Rows.{AreRisingRows};
+ghost use Rattle.completion.specs.Named.{NumbersRow};
 ghost use Rattle.dl_base.specs.Axiom.{with_names};
 ghost use Rattle.dl_base.specs.Ontology.{Terminology, IsTerminology};
 ghost use Rattle.dl_base.specs.declared.row.NamedRow.{NamedRow as AnyRow};
 ghost use Rattle.obda_run.specs.Document.{TooManyFacts};
-ghost use Rattle.obda_run.specs.Facts.{IsPlaceOf, KeepsFacts, NumbersRow, names_in};
+ghost use Rattle.obda_run.specs.Facts.{IsPlaceOf, KeepsFacts, names_in};
 
+use assert_tables::Assertions;
 use dl_base::{NameBook, NamedRow, Row};
 use std::alloc::{AllocError, Global};
-use std::collections::BTreeSet;
 
 /// The most rows of a document.
-const MOST_ROWS: usize = 1_000_000;
+const MOST_ROWS: u64 = 1_000_000;
 
 /// The most individuals of a document.
 const MOST_INDIVIDUALS: usize = 65_536;
@@ -21,26 +22,26 @@ const MOST_INDIVIDUALS: usize = 65_536;
 #[derive(Drop)]
 pub struct Facts {
     pub individuals: NameBook,
-    pub rows: BTreeSet<Row>,
+    pub rows: Assertions,
 }
 
 impl Facts {
     /// No facts. It takes no memory.
     pub fn new(alloc: Global) -> Facts
         ensures individuals { result.individuals ≡ [] }
-        ensures rows { IsEmpty result.rows }
+        ensures rows { result.rows ≡ [] }
     {
         Facts {
             individuals: NameBook::new(alloc),
-            rows: BTreeSet::new(alloc),
+            rows: Assertions::new(alloc),
         }
     }
 
     /// Whether there is no fact.
     pub fn is_empty(&self) -> bool
-        ensures { IsTrue result ↔ (btree_set_len self.now.rows ≡ 0) }
+        ensures { IsTrue result ↔ (length self.now.rows ≡ 0) }
     {
-        self.rows.is_empty()
+        self.rows.rows() == 0
     }
 
     /// Adds a row, whose concept or role has this place, and answers whether the facts are within the limits. Else they
@@ -53,16 +54,17 @@ impl Facts {
             return Ok(false);
         }
         let row = self.numbered(place, row)?;
-        self.rows.insert(row)?;
+        self.rows.add(row)?;
         Ok(self.are_within())
     }
 
     /// Whether the facts are within the limits.
     fn are_within(&self) -> bool
-        ensures within { IsTrue result ↔ ((btree_set_len self.now.rows ≤ 1000000) × (length self.now.individuals ≤ 65536)) }
+        ensures within { IsTrue result ↔ ((length self.now.rows ≤ 1000000) × (length self.now.individuals ≤ 65536)) }
         ensures distinct { AllPairs (λ x y. x ≢ y) self.now.individuals }
+        ensures rising { AreRisingRows self.now.rows }
     {
-        let rows = self.rows.len();
+        let rows = self.rows.rows();
         let individuals = self.individuals.len();
         rows <= MOST_ROWS && individuals <= MOST_INDIVIDUALS
     }

@@ -2,7 +2,7 @@
 ghost use Rattle.std.specs.Prelude.{◌≡◌, ◌<◌, ◌≤◌, ◌+◌, ◌^◌, ◌++◌, ℕ, List, [], IfOk, IfErr, IsErrOf, length, take};
 ghost use Rattle.std.specs.Option.{ForSome};
 ghost use Rattle.host_io.specs.Causes.{Rose};
-ghost use Rattle.obda_run.specs.Completed.{IsSound};
+ghost use Rattle.obda_run.specs.Sound.{IsSound};
 ghost use Rattle.obda_run.specs.Drafting.{KeepsDraft};
 ghost use Rattle.obda_run.specs.Run.{HasStopped, IsEarly, IsFinal, IsReading, IsRead};
 

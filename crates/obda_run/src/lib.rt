@@ -3,14 +3,12 @@
 
 mod answers;
 mod command;
-mod completed;
 mod document;
 mod facts;
 mod input;
 pub mod laws;
 mod lines;
 mod reason;
-mod reply;
 mod status;
 #[cfg(test)]
 mod tests;

@@ -9,8 +9,6 @@ pub enum Reason {
     TooLong,
     /// It is no line of a document, or stands out of order.
     Misplaced,
-    /// It is an axiom that says of something that it has a successor or is nothing, which isn't built yet.
-    NotBuilt,
     /// With its axiom the ontology passes a limit.
     PassesLimit,
     /// Its query has more than 24 atoms, distinct terms or answer places.
@@ -33,7 +31,6 @@ impl Reason {
         match self {
             Reason::TooLong => 2,
             Reason::Misplaced => 1,
-            Reason::NotBuilt => 99,
             Reason::PassesLimit => 5,
             Reason::TooLarge => 16,
             Reason::Unsafe => 17,

@@ -1,6 +1,8 @@
-use Rattle.std.proofs.Common.{refl}
+use Rattle.std.proofs.Common.{map, refl, subst}
+use Rattle.std.specs.Prelude.{string_bytes}
+use Rattle.obda_run.specs.Run.{IsAnswer}
 use Rattle.obda_run.proofs.InputLemmas.{ends_replied, ends_early}
-use Rattle.obda_run.proofs.CommandLemmas.{refused_only, answered_only}
+use Rattle.obda_run.proofs.CommandLemmas.{answered_only, else_no_memory, never_damaged, never_disk_fault, never_read_fault, never_usage, refused_only}
 use Rattle.obda_run.proofs.command.serve.Goals as goal
 
 pub returns-in-Ok-clause-run : goal.returns-in-Ok-clause-run
@@ -28,3 +30,24 @@ returns-in-Ok-clause-answers g c = λ o rows q used input told few document.
 pub returns-in-Err-clause-answers : goal.returns-in-Err-clause-answers
 returns-in-Err-clause-answers g c = λ o rows q used input told few document.
     answered_only input _ _ _ few o rows q document c.in-Err.status (returns-in-Err-clause-run g c used input told)
+
+pub returns-in-Ok-clause-usage : goal.returns-in-Ok-clause-usage
+returns-in-Ok-clause-usage g c = (
+  λ usage. absurd (never_usage c.reply.result c.reply.ensures.only usage),
+  λ other. absurd (other (subst (λ (words : _). IsAnswer (map string_bytes words)) c.deref.ensures.value (c.is_answer.ensures.0 c.if-not-is_answer.false))),
+)
+
+pub returns-in-Ok-clause-usage_reads_nothing : goal.returns-in-Ok-clause-usage_reads_nothing
+returns-in-Ok-clause-usage_reads_nothing g c = λ usage. absurd (never_usage c.reply.result c.reply.ensures.only usage)
+
+pub returns-in-Ok-clause-silent : goal.returns-in-Ok-clause-silent
+returns-in-Ok-clause-silent g c = λ done fault. c.reply.ensures.silent (else_no_memory c.reply.result c.reply.ensures.only done fault)
+
+pub returns-in-Ok-clause-read_fault : goal.returns-in-Ok-clause-read_fault
+returns-in-Ok-clause-read_fault g c = λ fault. absurd (never_read_fault c.reply.result c.reply.ensures.only fault)
+
+pub returns-in-Ok-clause-no_disk_fault : goal.returns-in-Ok-clause-no_disk_fault
+returns-in-Ok-clause-no_disk_fault g c = never_disk_fault c.reply.result c.reply.ensures.only
+
+pub returns-in-Ok-clause-no_damage : goal.returns-in-Ok-clause-no_damage
+returns-in-Ok-clause-no_damage g c = never_damaged c.reply.result c.reply.ensures.only

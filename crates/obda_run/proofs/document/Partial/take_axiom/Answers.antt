@@ -1,8 +1,8 @@
 use Rattle.std.proofs.Common.{ℕ, [], ◌∷◌, ◌++◌, sym, subst}
 use Rattle.obda_run.specs.Document.{FirstOffence}
-use Rattle.obda_run.specs.Drafting.{KeepsDraft, HasNewHeadIn}
+use Rattle.obda_run.specs.Drafting.{KeepsDraft}
 use Rattle.obda_run.specs.declared.reason.Reason.TheVariants as reason
-use Rattle.obda_run.proofs.LineTaking.{not_both, passes_as, axiom_late, axiom_new, axiom_passes, axiom_more}
+use Rattle.obda_run.proofs.LineTaking.{not_both, passes_as, axiom_late, axiom_passes, axiom_more}
 use Rattle.obda_run.proofs.document.Partial.take_axiom.Goals as goal
 
 pub returns-then-not-takes_axioms : goal.returns-then-not-takes_axioms
@@ -10,19 +10,11 @@ returns-then-not-takes_axioms c = λ lines text next.
     subst (KeepsDraft (lines ++ text ∷ [])) (sym c.refused.ensures)
     (axiom_late lines text c.args.self next.next c.args.added.now next.says (λ both. not_both c.if-not-takes_axioms.true (c.takes_axioms.ensures.1 both)))
 
-pub returns-then-has_new_head : goal.returns-then-has_new_head
-returns-then-has_new_head c = λ lines text next.
-    let first = c.takes_axioms.ensures.0 c.if-not-takes_axioms.false in
-    let new = subst HasNewHeadIn c.inclusions.ensures (c.has_new_head.ensures.0 c.if-has_new_head.true) in
-    subst (KeepsDraft (lines ++ text ∷ [])) (sym c.refused-then-has_new_head.ensures)
-    (axiom_new lines text c.args.self next.next c.args.added.now next.says first.0 first.1 new)
-
 pub returns-in-Ok : goal.returns-in-Ok
 returns-in-Ok c = λ lines text next.
     let first = c.takes_axioms.ensures.0 c.if-not-takes_axioms.false in
     subst (KeepsDraft (lines ++ text ∷ [])) (sym c.goes_on.ensures)
     (axiom_more lines text c.args.self next.next c.args.added.now next.says first.0 first.1
-    (λ new. not_both c.if-has_new_head.false (c.has_new_head.ensures.1 (subst HasNewHeadIn (sym c.inclusions.ensures) new)))
     c.in-Ok.ontology c.in-Ok.ensures)
 
 pub returns-in-Err-TooMany : goal.returns-in-Err-TooMany
@@ -31,5 +23,4 @@ returns-in-Err-TooMany c = λ lines text next.
     let passes = passes_as c.args.self.ontology c.args.added.now c.in-Err-TooMany.field-0 c.in-Err-TooMany.field-0-0 c.in-Err-TooMany.field-0-is c.in-Err-TooMany.ensures in
     subst (λ (n : ℕ). FirstOffence (lines ++ text ∷ []) n reason.PassesLimit) (sym c.saturating_add.ensures)
     (axiom_passes lines text c.args.self next.next c.args.added.now next.says first.0 first.1
-    (λ new. not_both c.if-has_new_head.false (c.has_new_head.ensures.1 (subst HasNewHeadIn (sym c.inclusions.ensures) new)))
     c.in-Err-TooMany.field-0-0 passes)
