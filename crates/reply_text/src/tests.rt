@@ -76,12 +76,19 @@ fn text_of(alloc: Global, reply: &Reply) -> Result<Vec<u8>, AllocError> {
     Ok(out)
 }
 
+fn is_part(found: Option<&[u8]>, text: &[u8]) -> bool {
+    match found {
+        Some(part) => part == text,
+        None => false,
+    }
+}
+
 #[test]
 fn each_reply_has_its_text(rt: HostRuntime) -> Result<(), Fail> {
     let alloc = rt.alloc();
     for (reply, text) in replies(alloc)?.iter() {
         let found = text_of(alloc, reply)?;
-        assert_eq!(rt; &found[2..], *text);
+        assert!(rt; is_part(found.get(2..), text));
     }
     Ok(())
 }
@@ -98,8 +105,8 @@ fn an_acknowledgement_is_written_both_ways(rt: HostRuntime) -> Result<(), Fail> 
     let mut buf = [0; 80];
     let len = ack_bytes(&LARGEST, &mut buf);
     let text = b"ok 18446744073709551615 18446744073709551615 0\n".as_slice();
-    assert_eq!(rt; &buf[..len], text);
+    assert!(rt; is_part(buf.get(..len), text));
     let found = text_of(rt.alloc(), &LARGEST)?;
-    assert_eq!(rt; &found[2..], text);
+    assert!(rt; is_part(found.get(2..), text));
     Ok(())
 }
