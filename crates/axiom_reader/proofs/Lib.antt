@@ -5,3 +5,4 @@ pub mod FormRules
 pub mod NamesRules
 pub mod MeaningRules
 pub mod BlockRules
+pub mod BlockOnce

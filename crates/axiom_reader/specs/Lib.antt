@@ -5,3 +5,4 @@ pub mod AxiomFault
 pub mod Vocabulary
 pub mod Block
 pub mod BlockReading
+pub mod BlockLaws

@@ -10,6 +10,7 @@ mod block;
 mod copies;
 mod forms;
 mod inclusions;
+pub mod laws;
 mod parts;
 mod tree;
 mod vocabulary;

@@ -18,6 +18,7 @@ pub mod OntologyLemmas
 pub mod RoleLemmas
 pub mod RowDecisions
 pub mod NumberLemmas
+pub mod NumberedRowLemmas
 pub mod ShortLemmas
 pub mod EdgeLemmas
 pub mod CollapseLemmas

@@ -5,6 +5,7 @@ pub mod Book
 pub mod Ontology
 pub mod Axiom
 pub mod Rows
+pub mod Numbers
 pub mod Sets
 pub mod Derivation
 pub mod Unfolding

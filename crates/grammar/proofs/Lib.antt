@@ -7,3 +7,4 @@ pub mod Blanks
 pub mod Lists
 pub mod Loops
 pub mod Digits
+pub mod FaultPlaces
