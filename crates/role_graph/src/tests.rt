@@ -1,7 +1,7 @@
 //! Points and live roles of small ontologies, by hand.
 ghost use Rattle.std.specs.Prelude.{◌≡◌, ◌<◌, ◌≤◌, false};
 
-use crate::{RoleClash, RoleGraph};
+use crate::RoleGraph;
 use axiom_reader::read_axiom;
 use dl_base::{Basic, Ontology, Role, RoleSet};
 use horn_closure::{Rules, Steps};
@@ -88,21 +88,35 @@ fn live_from(graph: &RoleGraph, r: Role) -> RoleSet
     graph.live(&from)
 }
 
-fn is_clash(found: Option<&RoleClash>, inclusion: u32, path: &[Role]) -> bool {
-    match found {
-        Some(clash) => clash.inclusion == inclusion && clash.path.items() == path,
+/// Roles in a list, by their names and whether they are inverses.
+fn is_path(path: &[Role], names: &[(u32, bool)]) -> bool {
+    path.len() == names.len()
+        && path.iter().zip(names).all(|(r, (name, inverse))| r.name == *name
+            && r.inverse == *inverse)
+}
+
+/// Whether the first clash from the role is of this inclusion, at the end of these roles.
+fn has_clash(
+    graph: &RoleGraph,
+    name: u32,
+    inverse: bool,
+    number: u32,
+    path: &[(u32, bool)],
+) -> bool {
+    match graph.clash_from(Role { name, inverse }) {
+        Some(clash) => clash.inclusion == number && is_path(clash.path.items(), path),
         None => false,
     }
 }
 
 fn assert_clashes(rt: &impl Abort, graph: &RoleGraph) {
-    let (z, y, x, w, v) = (role(0), role(1), role(2), role(3), role(4));
-    assert!(rt; is_clash(graph.clash_from(z), 4, &[z, x]));
-    assert!(rt; is_clash(graph.clash_from(y), 3, &[y]));
-    assert!(rt; is_clash(graph.clash_from(w), 4, &[w, z, x]));
-    assert!(rt; is_clash(graph.clash_from(z.inverted()), 4, &[z.inverted(), z, x]));
-    assert!(rt; is_clash(graph.clash_from(v), 7, &[v, v.inverted()]));
-    assert!(rt; graph.clash_from(role(9)).is_none());
+    let (z, x) = ((0, false), (2, false));
+    assert!(rt; has_clash(graph, 0, false, 4, &[z, x]));
+    assert!(rt; has_clash(graph, 1, false, 3, &[(1, false)]));
+    assert!(rt; has_clash(graph, 3, false, 4, &[(3, false), z, x]));
+    assert!(rt; has_clash(graph, 0, true, 4, &[(0, true), z, x]));
+    assert!(rt; has_clash(graph, 4, false, 7, &[(4, false), (4, true)]));
+    assert!(rt; !has_clash(graph, 9, false, 0, &[]));
 }
 
 fn assert_points(rt: &impl Abort, graph: &RoleGraph) {
