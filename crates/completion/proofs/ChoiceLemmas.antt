@@ -31,7 +31,7 @@ all_push : {X : Type 0} (P : X → Type 0) (xs : List X) (y : X) → AllByRecurs
 all_push P [] y all p = (p, tt)
 all_push P (x ∷ xs) y all p = (all.0, all_push P xs y all.1 p)
 
-rises_push : {X : Type 0} (cmp : X → X → Ordering) (xs : List X) (y : X) → IsStrictlySortedBy cmp xs → ((x : X) → Contains xs x → cmp x y ≡ Less) → IsStrictlySortedBy cmp (xs ++ y ∷ [])
+pub rises_push : {X : Type 0} (cmp : X → X → Ordering) (xs : List X) (y : X) → IsStrictlySortedBy cmp xs → ((x : X) → Contains xs x → cmp x y ≡ Less) → IsStrictlySortedBy cmp (xs ++ y ∷ [])
 unfolding IsStrictlySortedBy
 rises_push cmp [] y rises below = (tt, tt)
 rises_push cmp (x ∷ xs) y rises below =
@@ -39,7 +39,7 @@ rises_push cmp (x ∷ xs) y rises below =
 
 -- ---- entries in the order of their numbers
 
-before_next : (es : List (ℕ × AtIndividual)) (n : ℕ) (x : AtIndividual) (rest : List (ℕ × AtIndividual)) → IsStrictlySortedBy nat_cmp (keys_of (es ++ (n, x) ∷ rest)) → (m : ℕ) (y : AtIndividual) → Contains es (m, y) → nat_cmp m n ≡ Less
+pub before_next : (es : List (ℕ × AtIndividual)) (n : ℕ) (x : AtIndividual) (rest : List (ℕ × AtIndividual)) → IsStrictlySortedBy nat_cmp (keys_of (es ++ (n, x) ∷ rest)) → (m : ℕ) (y : AtIndividual) → Contains es (m, y) → nat_cmp m n ≡ Less
 unfolding IsStrictlySortedBy
 before_next [] n x rest rises m y c = absurd (omega (arith, c.1))
 before_next (e ∷ es) n x rest rises m y c = elim (contains_cases e es (m, y) c) [

@@ -2,7 +2,8 @@
 use Rattle.std.proofs.Common.{◌≡◌, ℕ, ◌↔◌, inl, inr, false, List, slice_get, Contains, Some, refl, sym, ◌∙◌, ap, subst}
 use Rattle.completion.specs.Completed.{Completion, IsCompletionOf}
 use Rattle.completion.specs.Edges.{ElemPoints, IsDerivedElem, IsFirstWitness, IsTableRow, Leads, by_row, forth, back, first_witness}
-use Rattle.completion.specs.Named.{IsNamedCompletion, NumbersRow, StandFor}
+use Rattle.completion.specs.Named.{IsNamedCompletion}
+use Rattle.dl_base.specs.Numbers.{NumbersRow, StandFor}
 use Rattle.completion.specs.Numbered.{HoldsBy, IsLiveRole}
 use Rattle.completion.proofs.EdgeLemmas.{points_live}
 use Rattle.completion.proofs.NamedLemmas.{held_holds, holds_held, live_named, live_numbered, name_of, named_individual, number_of, one_number, same_held, points_named, points_numbered}

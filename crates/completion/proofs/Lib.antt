@@ -2,6 +2,7 @@ pub mod HeldLemmas
 pub mod NeededLemmas
 pub mod AtLemmas
 pub mod MapLemmas
+pub mod NumberListLemmas
 pub mod BookLemmas
 pub mod NamedLemmas
 pub mod EdgeLemmas

@@ -1,7 +1,7 @@
 -- What rows by numbers say is what the rows by names say that they stand for.
 use Rattle.std.proofs.Common.{◌≡◌, ℕ, ◌↔◌, inl, inr, Bool, true, false, List, slice_get, Contains, Some, refl, sym, ◌∙◌, ap, subst}
 use Rattle.assert_tables.specs.Rows.{IsNamedIn}
-use Rattle.completion.specs.Named.{NumbersRow, StandFor}
+use Rattle.dl_base.specs.Numbers.{NumbersRow, StandFor}
 use Rattle.completion.specs.Numbered.{GivesBasic, HoldsBy, IsLiveRole, IsNamed, PointsTo}
 use Rattle.dl_base.specs.Completion.{IndividualPoints, IsLive}
 use Rattle.dl_base.specs.Completion as completion

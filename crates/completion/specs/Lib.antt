@@ -8,4 +8,5 @@ pub mod Members
 pub mod EdgeLists
 pub mod TableRows
 pub mod Gathered
+pub mod Numbers
 pub mod Least

@@ -1,32 +1,16 @@
--- Rows by numbers and the rows by names that they stand for.
-use Rattle.std.specs.Prelude.{◌≡◌, ◌≢◌, ◌↔◌, ℕ, List, AllPairs, Contains, Some, slice_get}
+-- What is completed of the rows by names that rows by numbers stand for.
+use Rattle.std.specs.Prelude.{◌≡◌, ◌↔◌, ℕ, List, Contains, Some, slice_get}
 use Rattle.dl_base.specs.Completion.{AreCompleted, IsLive}
 use Rattle.dl_base.specs.Ontology.{Terminology}
 use Rattle.dl_base.specs.Rows.{Held, IsIndividual}
 use Rattle.dl_base.specs.Sets.{HasRole}
 use Rattle.dl_base.specs.declared.concept.Role.{Role}
 use Rattle.dl_base.specs.declared.row.NamedRow.{NamedRow}
-use Rattle.dl_base.specs.declared.row.NamedRow.TheVariants as named
-use Rattle.dl_base.specs.declared.row.Row.{Row}
-use Rattle.dl_base.specs.declared.row.Row.TheVariants as row
 use Rattle.horn_closure.specs.Closure.{IsClosure}
 use Rattle.witness_book.specs.Witnesses.{generation_of}
 use Rattle.completion.specs.Completed.{Completion}
 use Rattle.completion.specs.Individuals.{IsKept, found_at}
 use Rattle.completion.specs.declared.individuals.AtIndividual.{AtIndividual}
-
--- the row by the numbers of its names: those of concepts and roles in the ontology, and of individuals in a list of names
-abbrev pub NumbersRow : Terminology → List (List ℕ) → NamedRow → Row → Type 0
-NumbersRow o names (named.Concept c a) (row.Concept d n) = (slice_get o.concepts d ≡ Some c) × (slice_get names n ≡ Some a)
-NumbersRow o names (named.Role p a b) (row.Role q n m) = (slice_get o.roles q ≡ Some p) × (slice_get names n ≡ Some a) × (slice_get names m ≡ Some b)
-NumbersRow o names (named.Concept c a) (row.Role q n m) = ⊥
-NumbersRow o names (named.Role p a b) (row.Concept d n) = ⊥
-
--- under a list of distinct names the rows by numbers stand for those by names
-pub record StandFor (o : Terminology) (names : List (List ℕ)) (rows : List Row) (these : List NamedRow) : Type 0 where
-  pub distinct : AllPairs (λ x y. x ≢ y) names
-  pub each : (r : NamedRow) → Contains these r → (n : Row) × Contains rows n × NumbersRow o names r n
-  pub only : (n : Row) → Contains rows n → (r : NamedRow) × Contains these r × NumbersRow o names r n
 
 -- By names: what is kept are the individuals of the rows, each with the closure of what it holds, the live roles are those of
 -- the rows, and the rows of the tables are the completed ones, each witness in its role's generation.

@@ -3,7 +3,8 @@ ghost use Rattle.std.specs.Prelude.{◌≡◌, ◌≤◌, ◌+◌, ℕ, List, Al
 ghost use Rattle.assert_tables.specs.Rows.{individuals_of};
 ghost use Rattle.completion.specs.Completed.{IsCompletionOf, IsFirstBook};
 ghost use Rattle.completion.specs.Individuals.{IsKept, IsLeastNumber, found_at};
-ghost use Rattle.completion.specs.Named.{IsNamedCompletion, StandFor};
+ghost use Rattle.completion.specs.Named.{IsNamedCompletion};
+ghost use Rattle.dl_base.specs.Numbers.{StandFor};
 ghost use Rattle.completion.specs.Numbered.{IsRowOf};
 ghost use Rattle.completion.specs.TableRows.{table_of};
 ghost use Rattle.dl_base.specs.declared.row.NamedRow.{NamedRow};

@@ -1,11 +1,14 @@
 //! How the rows of completed tables are found.
-ghost use Rattle.std.specs.Prelude.{◌≡◌, ◌↔◌, ◌<◌, All, IfOk, Contains, false, true, length};
+ghost use Rattle.std.specs.Prelude.{◌≡◌, ◌↔◌, ◌<◌, ◌+◌, ℕ, List, All, IfOk, OnOk, Contains, false, true, length};
 ghost use Rattle.completion.specs.Completed.{IsFirstBook};
 ghost use Rattle.completion.specs.Edges.{IsTableRow};
 ghost use Rattle.completion.specs.Gathered.{AreConceptLists, AreListsOfNames, AreLiveWithin, AreRoleLists};
 ghost use Rattle.completion.specs.Individuals.{AreAtIndividuals};
 ghost use Rattle.completion.specs.Numbered.{IsRowOf};
+ghost use Rattle.completion.specs.Numbers.{AreNumberLists, AreOfRole};
 ghost use Rattle.completion.specs.TableRows.{table_of};
+ghost use Rattle.completion.specs.declared.gather.Property.{Property as AnyProperty};
+ghost use Rattle.completion.specs.declared.individuals.AtIndividual.{AtIndividual as AnyAt};
 ghost use Rattle.dl_base.specs.Tables.{TableRow};
 ghost use Rattle.dl_base.specs.Sets.{HasRole};
 ghost use Rattle.role_graph.specs.Graph.{IsGraphOf};
@@ -16,6 +19,8 @@ use crate::edges::Edges;
 use crate::gather::{Property, elements_with};
 use crate::individuals::AtIndividual;
 use crate::members::Members;
+use crate::numbers::{Numbers, number_lists, take_list};
+use crate::properties::{concept_properties, role_properties};
 use crate::rows::{BothWays, RoleLists, TableRows};
 use assert_tables::Assertions;
 use dl_base::{Basic, Role};
@@ -59,10 +64,13 @@ fn concept_lists(
     ensures { IfOk result (λ v. AreConceptLists rules.now individuals.now.entries book.now (length rules.now.concepts) v.items) }
 {
     let concepts = rules.concepts().len() as u32;
+    let properties = concept_properties(alloc, concepts)?;
+    let mut numbers = number_lists(alloc, &properties, individuals)?;
     let mut lists = Vec::with_capacity(alloc, concepts as usize)?;
     for concept in 0..concepts {
         let property = Property::Derived(Basic::Concept(concept));
-        lists.push(elements_with(alloc, property, rules, graph, individuals, book)?)?;
+        let with_it = take_list(alloc, &mut numbers, concept as usize);
+        lists.push(elements_with(alloc, property, with_it, rules, graph, book)?)?;
     }
     Ok(lists)
 }
@@ -80,38 +88,63 @@ fn lists_of_names(
     ensures { IfOk result (λ v. AreListsOfNames rules.now individuals.now.entries book.now (length rules.now.roles) v.items) }
 {
     let names = rules.roles().len() as u32;
+    let properties = role_properties(alloc, names)?;
+    let mut numbers = number_lists(alloc, &properties, individuals)?;
     let mut lists = Vec::with_capacity(alloc, names as usize)?;
     for name in 0..names {
         let direct = Role {
             name,
             inverse: false,
         };
+        let place = 4 * name as usize;
         lists.push(BothWays {
-            direct: lists_of(alloc, direct, rules, graph, individuals, book)?,
-            inverse: lists_of(alloc, direct.inverted(), rules, graph, individuals, book)?,
+            direct: lists_of(alloc, direct, &mut numbers, place, rules, graph, book)?,
+            inverse: lists_of(
+                alloc,
+                direct.inverted(),
+                &mut numbers,
+                place + 2,
+                rules,
+                graph,
+                book,
+            )?,
         })?;
     }
     Ok(lists)
 }
 
-/// What the tables keep of the role.
+/// What the tables keep of the role: of the elements from which it leads the numbers stand at the place, and of those that
+/// point to its witness at the next one.
 fn lists_of(
     alloc: Global,
     role: Role,
+    numbers: &mut Vec<Numbers>,
+    place: usize,
     rules: &Rules,
     graph: &RoleGraph,
-    individuals: &BTreeMap<u32, AtIndividual>,
     book: &WitnessBook,
 ) -> Result<RoleLists, AllocError>
     requires graph { IsGraphOf rules.now graph.now }
     requires live { AreLiveWithin (length rules.now.roles) book.now }
-    ensures { IfOk result (AreRoleLists rules.now individuals.now.entries book.now role) }
+    requires place { place + 1 < length numbers.old.items }
+    ensures lists { (list : List (ℕ × AnyAt)) (properties : List AnyProperty) → AreNumberLists list properties place numbers.old.items → AreOfRole properties place role
+        → IfOk result (AreRoleLists rules.now list book.now role) }
+    ensures left { (list : List (ℕ × AnyAt)) (properties : List AnyProperty) → AreNumberLists list properties place numbers.old.items
+        → OnOk result (AreNumberLists list properties (place + 2) numbers.new.items) }
 {
+    let with_edge = take_list(alloc, numbers, place);
+    let pointing = take_list(alloc, numbers, place + 1);
     let derived = Property::Derived(Basic::Exists(role));
-    let pointing = Property::Pointing(role);
     Ok(RoleLists {
-        sources: elements_with(alloc, derived, rules, graph, individuals, book)?,
-        pointing: elements_with(alloc, pointing, rules, graph, individuals, book)?,
+        sources: elements_with(alloc, derived, with_edge, rules, graph, book)?,
+        pointing: elements_with(
+            alloc,
+            Property::Pointing(role),
+            pointing,
+            rules,
+            graph,
+            book,
+        )?,
         generation: generation(book, role),
     })
 }

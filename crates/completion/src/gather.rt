@@ -1,20 +1,20 @@
 //! Elements with a property, gathered in order.
-ghost use Rattle.std.specs.Prelude.{◌≡◌, ◌<◌, ◌↔◌, ◌⊎◌, ℕ, IsTrue, IfOk, OnOk, Contains, length};
-ghost use Rattle.std.specs.Ordering.{nat_cmp};
-ghost use Rattle.std.specs.List.Sorted.{IsStrictlySortedBy};
-ghost use Rattle.completion.specs.Gathered.{AreElemsWith, AreLiveWithin, IsFoundWith, IsHad, IsHadBehind, IsWitnessWith};
+ghost use Rattle.std.specs.Prelude.{◌≡◌, ◌<◌, ◌↔◌, ◌⊎◌, ℕ, IsTrue, IfOk, OnOk, Contains, List, length};
+ghost use Rattle.completion.specs.Gathered.{AreElemsWith, AreLiveWithin, IsHad, IsHadBehind, IsWitnessWith};
+ghost use Rattle.completion.specs.Numbers.{AreNumbersWith};
+ghost use Rattle.completion.specs.declared.individuals.AtIndividual.{AtIndividual as AnyAt};
 ghost use Rattle.dl_base.specs.Ontology.{Terminology};
 ghost use Rattle.dl_base.specs.declared.element.Witness.{Witness as AnyWitness};
 ghost use Rattle.role_graph.specs.Graph.{HasNode, IsGraphOf};
 
 use crate::individuals::AtIndividual;
 use crate::members::Members;
+use crate::numbers::Numbers;
 use crate::order::in_order;
 use dl_base::{Basic, Role, Witness};
 use horn_closure::Rules;
 use role_graph::RoleGraph;
 use std::alloc::{AllocError, Global};
-use std::collections::BTreeMap;
 use witness_book::WitnessBook;
 
 /// What elements are gathered by.
@@ -28,7 +28,7 @@ pub(crate) enum Property {
 
 impl Property {
     /// Whether the individual has it.
-    fn is_had(self, at: &AtIndividual) -> bool
+    pub(crate) fn is_had(self, at: &AtIndividual) -> bool
         ensures { IsTrue result ↔ IsHad self at.now }
     {
         match self {
@@ -49,44 +49,21 @@ impl Property {
     }
 }
 
-/// The individuals and the current witnesses that have the property.
+/// The individuals with these numbers, and the current witnesses that have the property.
 pub(crate) fn elements_with(
     alloc: Global,
     property: Property,
+    numbers: Numbers,
     rules: &Rules,
     graph: &RoleGraph,
-    individuals: &BTreeMap<u32, AtIndividual>,
     book: &WitnessBook,
 ) -> Result<Members, AllocError>
     requires graph { IsGraphOf rules.now graph.now }
     requires live { AreLiveWithin (length rules.now.roles) book.now }
-    ensures { IfOk result (AreElemsWith rules.now individuals.now.entries book.now property) }
+    ensures { (list : List (ℕ × AnyAt)) → AreNumbersWith list property numbers → IfOk result (AreElemsWith rules.now list book.now property) }
 {
-    let numbers = numbers_with(alloc, property, individuals)?;
     let witnesses = witnesses_with(alloc, property, rules, graph, book)?;
-    Ok(Members::new(numbers, in_order(witnesses)))
-}
-
-/// The numbers of the individuals that have the property, rising.
-fn numbers_with(
-    alloc: Global,
-    property: Property,
-    individuals: &BTreeMap<u32, AtIndividual>,
-) -> Result<Vec<u32>, AllocError>
-    ensures rising { IfOk result (λ v. IsStrictlySortedBy nat_cmp v.items) }
-    ensures each { IfOk result (λ v. (n : ℕ) → Contains v.items n ↔ IsFoundWith individuals.now.entries property n) }
-{
-    let count = individuals
-        .values()
-        .filter(|at| property.is_had(at))
-        .count();
-    let mut numbers = Vec::with_capacity(alloc, count)?;
-    for (number, at) in individuals {
-        if property.is_had(at) {
-            numbers.push(*number)?;
-        }
-    }
-    Ok(numbers)
+    Ok(Members::new(numbers.into_list(), in_order(witnesses)))
 }
 
 /// The current witnesses that have the property.

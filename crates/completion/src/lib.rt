@@ -9,8 +9,10 @@ mod gather;
 mod held;
 mod individuals;
 mod members;
+mod numbers;
 mod order;
 mod points;
+mod properties;
 mod rows;
 mod tables;
 #[cfg(test)]
