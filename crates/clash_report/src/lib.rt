@@ -5,5 +5,7 @@ mod at;
 mod found;
 mod order;
 mod report;
+#[cfg(test)]
+mod tests;
 
 pub use report::first_clash;
