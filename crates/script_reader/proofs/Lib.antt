@@ -3,3 +3,10 @@ pub mod KeywordRules
 pub mod RowRules
 pub mod LineRules
 pub mod LineDecisions
+pub mod CommandRules
+pub mod CommandQueries
+pub mod LineLemmas
+pub mod FeedingLemmas
+pub mod RequestOnce
+pub mod RequestParts
+pub mod EndRules

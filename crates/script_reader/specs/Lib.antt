@@ -1,3 +1,9 @@
 pub mod DocLines
 pub mod RowReading
 pub mod LineLaws
+pub mod Commands
+pub mod CommandReading
+pub mod Lines
+pub mod Feeding
+pub mod Requests
+pub mod RequestLaws

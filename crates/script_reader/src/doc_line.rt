@@ -60,7 +60,7 @@ pub fn read_doc_line(alloc: Global, text: &[u8]) -> Result<DocLine, CommandError
 }
 
 /// The text without the blanks before and behind it.
-fn trimmed(text: &[u8]) -> &[u8]
+pub(crate) fn trimmed(text: &[u8]) -> &[u8]
     ensures { IsTrimmed text.now result.now }
 {
     let (_, rest) = skip_blanks(text);
