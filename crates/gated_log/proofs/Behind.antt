@@ -1,11 +1,11 @@
 -- What an area with a new entry behind its closed gate stands for.
-use Rattle.std.proofs.Common.{◌≡◌, ◌≢◌, ◌⊎◌, ◌<◌, ◌≤◌, ◌+◌, inl, inr, ⊎_elim, ℕ, List, [], ◌∷◌, ◌++◌, length, get_or, take, drop, refl, sym, ◌∙◌, ap, subst, arith, append_assoc, length-append, take-append-drop}
-use Rattle.std.proofs.lemmas.List.{take_at, drop_at, length-take, append-nil}
+use Rattle.std.proofs.Common.{◌≡◌, ◌≢◌, ◌⊎◌, ◌<◌, ◌≤◌, ◌+◌, inl, inr, ⊎_elim, ℕ, List, [], ◌∷◌, ◌++◌, length, take, drop, sym, ◌∙◌, ap, subst, arith, append_assoc, length-append, take-append-drop}
+use Rattle.std.proofs.lemmas.List.{take_at, drop_at, append-nil}
 use Rattle.std.proofs.lemmas.List.Elements.{All-push}
 use Rattle.std.proofs.lemmas.Bool.{cases_eq}
 use Rattle.host_io.specs.Disk.{put}
 use Rattle.area_layout.specs.Layout.{head_bytes}
-use Rattle.gated_log.specs.Entries.{top, Bounds, Entry, body, spelling, Begins, Fits, Stands, gate_place, IsEntry}
+use Rattle.gated_log.specs.Entries.{top, Bounds, Entry, body, spelling, BeginsWithEntries, IsWithinLimit, Stands, gate_place, IsEntry}
 
 pub spelling-push : (es : List Entry) (e : Entry) → spelling (es ++ e ∷ []) ≡ spelling es ++ 1 ∷ body e
 spelling-push [] e = ap (λ (l : List ℕ). 1 ∷ l) (append-nil (body e))
@@ -20,13 +20,13 @@ length-body e = length-append (head_bytes (record { kind = e.kind; len = length 
 pub place_more : (entries : List Entry) (e : Entry) → gate_place (entries ++ e ∷ []) ≡ gate_place entries + 6 + length e.payload
 place_more entries e = omega (arith, ap length (spelling-push entries e), length-append (spelling entries) (1 ∷ body e), length-body e)
 
-pub fits_when : (limit : ℕ) (entries : List Entry) → gate_place entries ≤ limit → Fits limit entries
+pub fits_when : (limit : ℕ) (entries : List Entry) → gate_place entries ≤ limit → IsWithinLimit limit entries
 fits_when limit [] le = tt
 fits_when limit (e ∷ es) le = le
 
 -- the area with one more of its entries in front
-pub begins_more : (b : Bounds) (area : List ℕ) (entries : List Entry) (e : Entry) (rest more : List ℕ) → Begins b area entries rest → IsEntry b e → gate_place entries + 6 + length e.payload ≤ b.limit
-    → rest ≡ 1 ∷ body e ++ more → Begins b area (entries ++ e ∷ []) more
+pub begins_more : (b : Bounds) (area : List ℕ) (entries : List Entry) (e : Entry) (rest more : List ℕ) → BeginsWithEntries b area entries rest → IsEntry b e → gate_place entries + 6 + length e.payload ≤ b.limit
+    → rest ≡ 1 ∷ body e ++ more → BeginsWithEntries b area (entries ++ e ∷ []) more
 begins_more b area entries e rest more s is le spelled = record {
   each = All-push (IsEntry b) entries e s.each is;
   fits = fits_when b.limit (entries ++ e ∷ []) (omega (arith, place_more entries e));
@@ -103,7 +103,7 @@ module _ (b : Bounds) (old : List ℕ) (entries : List Entry) (s : Stands b old 
   opened e is le =
       let bytes = body e ++ 0 ∷ [] in
       let rest = drop (end + 1 + length bytes) old in
-      let so_far : Begins b (put end (1 ∷ []) (put (end + 1) bytes old)) entries (1 ∷ bytes ++ rest) = record { each = s.begins.each; fits = s.begins.fits; spelled = with_gate 1 bytes } in
+      let so_far : BeginsWithEntries b (put end (1 ∷ []) (put (end + 1) bytes old)) entries (1 ∷ bytes ++ rest) = record { each = s.begins.each; fits = s.begins.fits; spelled = with_gate 1 bytes } in
       record {
         gate = 0;
         more = rest;

@@ -1,12 +1,12 @@
 -- Every area is fresh, stands for entries, or offends: an area is read up to its closed gate, or to the gate where it offends.
-use Rattle.std.proofs.Common.{◌≡◌, ◌≢◌, ◌⊎◌, ◌<◌, ◌≤◌, ◌+◌, ◌*◌, inl, inr, ⊎_elim, ℕ, zero, suc, List, [], ◌∷◌, ◌++◌, length, get_or, take, drop, refl, sym, ◌∙◌, ap, subst, arith, append_assoc, length-append, take-append-drop}
+use Rattle.std.proofs.Common.{◌≡◌, ◌≢◌, ◌⊎◌, ◌≤◌, ◌+◌, ◌*◌, inl, inr, ⊎_elim, ℕ, zero, suc, List, [], ◌∷◌, ◌++◌, length, get_or, take, drop, refl, sym, ◌∙◌, ap, arith, append_assoc, length-append, take-append-drop}
 use Rattle.std.proofs.lemmas.Bool.{cases_eq, cases_lt}
 use Rattle.std.proofs.lemmas.List.{length-drop, length-take}
 use Rattle.area_layout.specs.Layout.{head_bytes}
 use Rattle.area_layout.specs.declared.entry_head.EntryHead.{EntryHead}
-use Rattle.gated_log.specs.Entries.{Bounds, Begins, Entry, IsBroken, IsEntry, IsFresh, Offends, OffendsBehind, Stands, body, gate_place, top}
+use Rattle.gated_log.specs.Entries.{Bounds, BeginsWithEntries, Entry, IsEntry, IsFresh, OffendsBehind, Stands, body, gate_place, top}
 use Rattle.gated_log.specs.Laws.{IsOneOfThree}
-use Rattle.gated_log.proofs.Behind.{begins_more, length-body}
+use Rattle.gated_log.proofs.Behind.{begins_more}
 use Rattle.gated_log.proofs.Fresh.{top_begins}
 
 same_or_not : (xs ys : List ℕ) → (xs ≡ ys) ⊎ (xs ≢ ys)
@@ -110,7 +110,7 @@ Ends : Bounds → List ℕ → Type 0
 Ends b area = ((es : List Entry) × Stands b area es) ⊎ ((at : ℕ) × OffendsBehind b area at)
 
 -- from a gate on, in so many steps at most
-read_on : (n : ℕ) (b : Bounds) (area : List ℕ) (entries : List Entry) (rest : List ℕ) → length rest ≤ n → Begins b area entries rest → Ends b area
+read_on : (n : ℕ) (b : Bounds) (area : List ℕ) (entries : List Entry) (rest : List ℕ) → length rest ≤ n → BeginsWithEntries b area entries rest → Ends b area
 unfolding Ends
 read_on n b area entries [] le s = inr (gate_place entries, record { entries = entries; rest = []; begins = s; place = refl; offence = inl refl })
 read_on zero b area entries (g ∷ behind) le s = absurd (omega arith)

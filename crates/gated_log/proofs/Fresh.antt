@@ -1,10 +1,10 @@
 -- A fresh area while it is initialised.
-use Rattle.std.proofs.Common.{◌≡◌, ◌≢◌, ◌⊎◌, ◌<◌, ◌≤◌, ◌+◌, inl, inr, ⊎_elim, ℕ, List, [], ◌∷◌, ◌++◌, length, get_or, take, drop, refl, sym, ◌∙◌, ap, subst, arith, take-append-drop}
+use Rattle.std.proofs.Common.{◌≡◌, ◌≢◌, ◌≤◌, inl, inr, ⊎_elim, ℕ, List, [], ◌∷◌, ◌++◌, length, get_or, take, drop, refl, sym, ◌∙◌, ap, subst, arith, take-append-drop}
 use Rattle.std.proofs.lemmas.Bool.{cases_eq}
 use Rattle.std.proofs.lemmas.List.Elements.{All-nil}
 use Rattle.host_io.specs.Disk.{IsTorn, put}
 use Rattle.area_layout.specs.Layout.{header_bytes}
-use Rattle.gated_log.specs.Entries.{Bounds, Begins, IsEntry, IsFresh, Stands, top}
+use Rattle.gated_log.specs.Entries.{Bounds, BeginsWithEntries, IsEntry, IsFresh, Stands, top}
 use Rattle.gated_log.specs.Opening.{Opens, initialised}
 use Rattle.gated_log.specs.Stops.{HoldsNothing}
 use Rattle.gated_log.proofs.Tears.{one_byte}
@@ -37,7 +37,7 @@ shut_stays n [] c le shut torn = absurd (omega (arith, le))
 shut_stays n (x ∷ xs) [] le shut torn = inl (omega arith)
 shut_stays n (x ∷ xs) (y ∷ ys) le shut torn = let first : y ∷ [] ≡ x ∷ [] = torn.before in inr (λ one. shut (let e : y ≡ x = cc in sym e ∙ one))
 
-pub nothing_begins : (b : Bounds) (old : List ℕ) → Begins b (initialised old) [] (0 ∷ drop 18 old)
+pub nothing_begins : (b : Bounds) (old : List ℕ) → BeginsWithEntries b (initialised old) [] (0 ∷ drop 18 old)
 nothing_begins b old = record { each = All-nil (IsEntry b); fits = tt; spelled = refl }
 
 pub nothing_stands : (b : Bounds) (old : List ℕ) → Stands b (initialised old) []
@@ -59,7 +59,7 @@ top_not_fresh [] is fresh = let e : 0 ≡ 17 = ap length is in omega (arith, e)
 top_not_fresh (x ∷ []) is fresh = let e : 1 ≡ 17 = ap length is in omega (arith, e)
 top_not_fresh (x ∷ y ∷ ys) is fresh = let e : x ≡ 1 = cc in ⊎_elim (λ short. omega (arith, short)) (λ shut. shut e) fresh
 
-pub top_begins : (b : Bounds) (area : List ℕ) → take 17 area ≡ top → Begins b area [] (drop 17 area)
+pub top_begins : (b : Bounds) (area : List ℕ) → take 17 area ≡ top → BeginsWithEntries b area [] (drop 17 area)
 top_begins b area is = record { each = All-nil (IsEntry b); fits = tt; spelled = sym (take-append-drop 17 area) ∙ ap (λ (l : List ℕ). l ++ drop 17 area) is }
 
 pub opens_fresh : (b : Bounds) (area : List ℕ) → IsFresh area → Opens b area (initialised area)

@@ -1,12 +1,12 @@
 -- What was read at a gate, and what it says of the area.
-use Rattle.std.proofs.Common.{◌≡◌, ◌≢◌, ◌⊎◌, ◌<◌, ◌≤◌, ◌+◌, ◌^◌, ◌/◌, ◌%◌, inl, inr, ⊎_elim, ℕ, List, [], ◌∷◌, ◌++◌, length, get_or, take, drop, refl, sym, ◌∙◌, ap, subst, arith, append_assoc, length-append, take-append-drop, min}
-use Rattle.std.proofs.lemmas.List.{drop_at, length-drop, length-take, take_all, take_min}
+use Rattle.std.proofs.Common.{◌≡◌, ◌≢◌, ◌⊎◌, ◌<◌, ◌≤◌, ◌+◌, ◌^◌, ℕ, List, [], ◌∷◌, ◌++◌, length, get_or, take, drop, sym, ◌∙◌, ap, subst, arith, append_assoc, length-append, take-append-drop, min}
+use Rattle.std.proofs.lemmas.List.{drop_at, length-take, take_min}
 use Rattle.host_io.specs.Disk.{IsCopy}
 use Rattle.area_layout.specs.Layout.{head_bytes}
 use Rattle.area_layout.specs.declared.entry_head.EntryHead.{EntryHead}
-use Rattle.gated_log.specs.Entries.{Bounds, Entry, Begins, IsBroken, IsEntry, OffendsBehind, Stands, body, gate_place, spelling, top}
+use Rattle.gated_log.specs.Entries.{Bounds, Entry, BeginsWithEntries, IsBroken, IsEntry, OffendsBehind, Stands, body, gate_place, spelling, top}
 use Rattle.gated_log.specs.Front.{IsOpen, IsWithin}
-use Rattle.gated_log.specs.Reading.{GoesOn, IsAll, entry_in}
+use Rattle.gated_log.specs.Reading.{entry_in}
 use Rattle.gated_log.proofs.Behind.{begins_more, place_more}
 
 -- the front of the buffer, as far as it was filled, is the front of what stands there
@@ -17,7 +17,7 @@ copied bytes at count n buffer is long = is.front ∙ ap (λ m. take m (drop at 
 pub head_of_one : (h k : EntryHead) → h.len < 2 ^ 32 → k.len < 2 ^ 32 → head_bytes h ≡ head_bytes k → (h.kind ≡ k.kind) × (h.len ≡ k.len)
 head_of_one h k h_fits k_fits is = (ap (λ (l : List ℕ). get_or l 0 0) is, omega (arith, h_fits, k_fits, ap (λ (l : List ℕ). get_or l 1 0) is, ap (λ (l : List ℕ). get_or l 2 0) is, ap (λ (l : List ℕ). get_or l 3 0) is, ap (λ (l : List ℕ). get_or l 4 0) is))
 
-module _ (b : Bounds) (area : List ℕ) (entries : List Entry) (rest : List ℕ) (s : Begins b area entries rest) (gate : ℕ) (place : gate_place entries ≡ gate) where
+module _ (b : Bounds) (area : List ℕ) (entries : List Entry) (rest : List ℕ) (s : BeginsWithEntries b area entries rest) (gate : ℕ) (place : gate_place entries ≡ gate) where
   before : List ℕ
   before = top ++ spelling entries
 
@@ -32,7 +32,7 @@ module _ (b : Bounds) (area : List ℕ) (entries : List Entry) (rest : List ℕ)
 
   -- a closed gate ends the entries
   pub ends : (byte : ℕ) (more : List ℕ) → rest ≡ byte ∷ more → byte ≢ 1 → Stands b area entries
-  ends byte more is closed = record { gate = byte; more = more; closed = closed; begins = subst (Begins b area entries) is s }
+  ends byte more is closed = record { gate = byte; more = more; closed = closed; begins = subst (BeginsWithEntries b area entries) is s }
 
   pub offends : (rest ≡ []) ⊎ IsBroken b gate rest → OffendsBehind b area gate
   offends offence = record { entries = entries; rest = rest; begins = s; place = sym place; offence = offence }
@@ -52,7 +52,7 @@ module _ (b : Bounds) (area : List ℕ) (entries : List Entry) (rest : List ℕ)
         ∙ drop_at front (drop 5 open_at.behind) (gate + 6) (omega (arith, length-append before (1 ∷ head_bytes h), size))
 
     -- all of the payload is there
-    pub goes_on : (buffer : List ℕ) → h.len ≤ length (drop (gate + 6) area) → take h.len buffer ≡ take h.len (drop (gate + 6) area) → (more : List ℕ) × Begins b area (entries ++ entry_in h.kind h.len buffer ∷ []) more × (gate_place (entries ++ entry_in h.kind h.len buffer ∷ []) ≡ gate + 6 + h.len)
+    pub goes_on : (buffer : List ℕ) → h.len ≤ length (drop (gate + 6) area) → take h.len buffer ≡ take h.len (drop (gate + 6) area) → (more : List ℕ) × BeginsWithEntries b area (entries ++ entry_in h.kind h.len buffer ∷ []) more × (gate_place (entries ++ entry_in h.kind h.len buffer ∷ []) ≡ gate + 6 + h.len)
     goes_on buffer enough same =
         let e = entry_in h.kind h.len buffer in
         let payload = take h.len (drop 5 open_at.behind) in

@@ -1,5 +1,5 @@
 -- One run on the first area after another.
-use Rattle.std.proofs.Common.{◌≡◌, ℕ, List, ◌∙◌, Option, Some}
+use Rattle.std.proofs.Common.{◌≡◌, ℕ, List, ◌∙◌, Option}
 use Rattle.host_io.specs.Disk.{Disk}
 use Rattle.host_io.specs.Moments.{Left, LeavesOnly}
 use Rattle.host_io.proofs.Moments.{joined, weaker}

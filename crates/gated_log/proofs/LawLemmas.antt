@@ -1,11 +1,9 @@
 -- An area read twice: the entries of the one reading are the first of the other's.
-use Rattle.std.proofs.Common.{◌≡◌, ◌≢◌, ◌⊎◌, ◌<◌, ◌≤◌, ◌+◌, ◌^◌, inl, inr, ⊎_elim, ℕ, List, [], ◌∷◌, ◌++◌, length, get_or, take, drop, refl, sym, ◌∙◌, ap, subst, arith, append_assoc, length-append}
+use Rattle.std.proofs.Common.{◌≡◌, ◌≢◌, ◌⊎◌, ◌≤◌, ◌+◌, inl, inr, ⊎_elim, ℕ, List, [], ◌∷◌, ◌++◌, length, get_or, take, drop, refl, sym, ◌∙◌, ap, subst, arith, append_assoc, length-append}
 use Rattle.std.proofs.lemmas.List.{append_cancel_left, append-nil, take_at, drop_at}
 use Rattle.std.specs.List.{All}
 use Rattle.std.proofs.lemmas.List.Elements.{All-head, All-tail}
-use Rattle.area_layout.specs.Layout.{head_bytes}
-use Rattle.area_layout.specs.declared.entry_head.EntryHead.{EntryHead}
-use Rattle.gated_log.specs.Entries.{Bounds, Begins, Entry, Fits, IsBroken, IsEntry, IsFresh, Offends, OffendsAtTop, OffendsBehind, Stands, body, gate_place, spelling, top}
+use Rattle.gated_log.specs.Entries.{Bounds, BeginsWithEntries, Entry, IsWithinLimit, IsBroken, IsEntry, OffendsBehind, body, gate_place, spelling, top}
 use Rattle.gated_log.specs.Laws.{FreshHasNoHeader, FreshNeverOffends, OffendsOnce, StandsOnce, StandsOrOffends}
 use Rattle.gated_log.proofs.Behind.{length-body}
 use Rattle.gated_log.proofs.Fresh.{top_not_fresh}
@@ -47,7 +45,7 @@ compared b (e ∷ es) (f ∷ fs) xs ys are_e are_f is =
     (λ r. inr (record { more = r.more; all = ap (λ (l : List Entry). e ∷ l) r.all ∙ ap (λ (x : Entry). x ∷ fs ++ r.more) one.0; rest = r.rest }))
     (compared b es fs xs ys (All-tail (IsEntry b) e es are_e) (All-tail (IsEntry b) f fs are_f) one.1)
 
-pub begun_twice : (b : Bounds) (area : List ℕ) (es fs : List Entry) (xs ys : List ℕ) → Begins b area es xs → Begins b area fs ys → GoesBeyond es fs xs ys ⊎ GoesBeyond fs es ys xs
+pub begun_twice : (b : Bounds) (area : List ℕ) (es fs : List Entry) (xs ys : List ℕ) → BeginsWithEntries b area es xs → BeginsWithEntries b area fs ys → GoesBeyond es fs xs ys ⊎ GoesBeyond fs es ys xs
 begun_twice b area es fs xs ys first second = compared b es fs xs ys first.each second.each
     (append_cancel_left top (spelling es ++ xs) (spelling fs ++ ys) (sym (append_assoc top (spelling es) xs) ∙ sym first.spelled ∙ second.spelled ∙ append_assoc top (spelling fs) ys))
 
@@ -55,12 +53,12 @@ spelling-append : (es fs : List Entry) → spelling (es ++ fs) ≡ spelling es +
 spelling-append [] fs = refl
 spelling-append (e ∷ es) fs = ap (λ (l : List ℕ). 1 ∷ body e ++ l) (spelling-append es fs) ∙ ap (λ (l : List ℕ). 1 ∷ l) (sym (append_assoc (body e) (spelling es) (spelling fs)))
 
-place_of : (limit : ℕ) (es : List Entry) (m : Entry) (ms : List Entry) → Fits limit (es ++ m ∷ ms) → gate_place (es ++ m ∷ ms) ≤ limit
+place_of : (limit : ℕ) (es : List Entry) (m : Entry) (ms : List Entry) → IsWithinLimit limit (es ++ m ∷ ms) → gate_place (es ++ m ∷ ms) ≤ limit
 place_of limit [] m ms fits = fits
 place_of limit (e ∷ es) m ms fits = fits
 
 -- the gate behind an entry in the midst is not past the limit
-pub inner_fits : (limit : ℕ) (es : List Entry) (m : Entry) (ms : List Entry) → Fits limit (es ++ m ∷ ms) → gate_place es + 6 + length m.payload ≤ limit
+pub inner_fits : (limit : ℕ) (es : List Entry) (m : Entry) (ms : List Entry) → IsWithinLimit limit (es ++ m ∷ ms) → gate_place es + 6 + length m.payload ≤ limit
 inner_fits limit es m ms fits = omega (arith, place_of limit es m ms fits, ap length (spelling-append es (m ∷ ms)), length-append (spelling es) (spelling (m ∷ ms)), length-append (body m) (spelling ms), length-body m)
 
 pub inner_entry : (b : Bounds) (es : List Entry) (m : Entry) (ms : List Entry) → All (IsEntry b) (es ++ m ∷ ms) → IsEntry b m
@@ -74,7 +72,7 @@ closed_ends gate rest (m ∷ ms) ys closed is = absurd (closed (ap (λ (l : List
 
 -- nor where the area offends
 offence_ends : (b : Bounds) (es : List Entry) (xs : List ℕ) (at : ℕ) (more : List Entry) (ys : List ℕ) → at ≡ gate_place es → (xs ≡ []) ⊎ IsBroken b at xs
-    → All (IsEntry b) (es ++ more) → Fits b.limit (es ++ more) → xs ≡ spelling more ++ ys → more ≡ []
+    → All (IsEntry b) (es ++ more) → IsWithinLimit b.limit (es ++ more) → xs ≡ spelling more ++ ys → more ≡ []
 offence_ends b es xs at [] ys place offence each fits is = refl
 offence_ends b es xs at (m ∷ ms) ys place offence each fits is = absurd (⊎_elim
     (λ none. let e : 0 ≡ length (1 ∷ body m ++ spelling ms ++ ys) = ap length (sym none ∙ is) in omega (arith, e))
@@ -92,9 +90,9 @@ stands_once b area es fs first second = ⊎_elim
     (begun_twice b area es fs (first.gate ∷ first.more) (second.gate ∷ second.more) first.begins second.begins)
 
 -- where the area offends, no longer list begins it
-ends_there : (b : Bounds) (area : List ℕ) (at : ℕ) (o : OffendsBehind b area at) (fs : List Entry) (ys : List ℕ) → Begins b area fs ys → GoesBeyond o.entries fs o.rest ys → (fs ≡ o.entries) × (o.rest ≡ ys)
+ends_there : (b : Bounds) (area : List ℕ) (at : ℕ) (o : OffendsBehind b area at) (fs : List Entry) (ys : List ℕ) → BeginsWithEntries b area fs ys → GoesBeyond o.entries fs o.rest ys → (fs ≡ o.entries) × (o.rest ≡ ys)
 ends_there b area at o fs ys begins r =
-    let none = offence_ends b o.entries o.rest at r.more ys o.place o.offence (subst (All (IsEntry b)) r.all begins.each) (subst (Fits b.limit) r.all begins.fits) r.rest in
+    let none = offence_ends b o.entries o.rest at r.more ys o.place o.offence (subst (All (IsEntry b)) r.all begins.each) (subst (IsWithinLimit b.limit) r.all begins.fits) r.rest in
     (alone o.entries r.more fs r.all none, r.rest ∙ ap (λ (l : List Entry). spelling l ++ ys) none)
 
 -- a closed gate is no offence
@@ -104,7 +102,7 @@ no_offence b at gate rest closed offence = ⊎_elim
     (λ broken. closed (ap (λ (l : List ℕ). get_or l 0 0) broken.is_open))
     offence
 
-pub begins_top : (b : Bounds) (area : List ℕ) (es : List Entry) (rest : List ℕ) → Begins b area es rest → take 17 area ≡ top
+pub begins_top : (b : Bounds) (area : List ℕ) (es : List Entry) (rest : List ℕ) → BeginsWithEntries b area es rest → take 17 area ≡ top
 begins_top b area es rest begins = ap (take 17) (begins.spelled ∙ append_assoc top (spelling es) rest) ∙ take_at top (spelling es ++ rest) 17 refl
 
 pub stands_or_offends : StandsOrOffends

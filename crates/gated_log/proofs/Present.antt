@@ -1,5 +1,5 @@
 -- What a read gives now, out of what a stop leaves.
-use Rattle.std.proofs.Common.{◌≡◌, ◌≤◌, ℕ, List, [], refl, sym, ◌∙◌, ap, subst, Option, Some, None}
+use Rattle.std.proofs.Common.{◌≡◌, ◌≤◌, ℕ, List, [], sym, ◌∙◌, subst, Option, Some, None}
 use Rattle.host_io.specs.Disk.{Disk, IsImage}
 use Rattle.host_io.specs.Moments.{Left, Leaves, LeavesOnly, IsShown}
 use Rattle.gated_log.proofs.Runs.{same_some}

@@ -4,8 +4,8 @@ use Rattle.std.specs.Option.{ForSome}
 use Rattle.host_io.specs.Disk.{Disk, IsSettled}
 use Rattle.gated_log.specs.Entries.{Bounds, Entry}
 use Rattle.gated_log.specs.Opening.{Opens}
-use Rattle.gated_log.specs.Reading.{GoesOn, IsAll, entry_in}
-use Rattle.gated_log.specs.State.{Appended, IsBegun, IsReady}
+use Rattle.gated_log.specs.Reading.{GoesOnWith, IsAll, entry_in}
+use Rattle.gated_log.specs.State.{Appended, IsBegun, IsClosedAt}
 use Rattle.gated_log.proofs.Runs.{same_some}
 
 -- an area that was opened begins with no entries
@@ -18,17 +18,17 @@ begun_first b (Some d) new opened untold e is =
     subst (λ (x : Disk). IsSettled x × IsBegun b 17 x.first.reads) (same_some (sym o.1 ∙ is)) (o.2, ([], o.4.rest, o.4.begins, refl))
 
 -- the entries and the one that was read
-pub begun_on : (b : Bounds) (gate kind len : ℕ) (area buffer : List ℕ) → IsBegun b gate area → GoesOn b gate len area (entry_in kind len buffer) → IsBegun b (gate + 6 + len) area
+pub begun_on : (b : Bounds) (gate kind len : ℕ) (area buffer : List ℕ) → IsBegun b gate area → GoesOnWith b gate len area (entry_in kind len buffer) → IsBegun b (gate + 6 + len) area
 begun_on b gate kind len area buffer begun on =
     let more = on begun.0 begun.1 begun.2 begun.3 in
     (begun.0 ++ entry_in kind len buffer ∷ [], more.0, more.1, more.2)
 
 -- the entries are all, and the log is ready for the next
-pub ready_at : (b : Bounds) (gate : ℕ) (area : List ℕ) → IsBegun b gate area → IsAll b gate area → IsReady b gate area
+pub ready_at : (b : Bounds) (gate : ℕ) (area : List ℕ) → IsBegun b gate area → IsAll b gate area → IsClosedAt b gate area
 ready_at b gate area begun all = (begun.0, all begun.0 begun.1 begun.2 begun.3, begun.3)
 
 -- behind one more entry the log is ready again
-pub ready_more : (b : Bounds) (end : ℕ) (entry : Entry) (old new : List ℕ) → IsReady b end old → Appended b end entry old new → IsReady b (end + 6 + length entry.payload) new
+pub ready_more : (b : Bounds) (end : ℕ) (entry : Entry) (old new : List ℕ) → IsClosedAt b end old → Appended b end entry old new → IsClosedAt b (end + 6 + length entry.payload) new
 ready_more b end entry old new ready more =
     let m = more ready.0 ready.1 ready.2 in
     (ready.0 ++ entry ∷ [], m.0, m.1)

@@ -1,7 +1,6 @@
 -- The bytes behind a place are written, call by call.
-use Rattle.std.proofs.Common.{◌≡◌, ◌<◌, ◌≤◌, ◌+◌, ℕ, List, length, take, refl, sym, ◌∙◌, ap, subst, arith, Option, Some, None, Result, Ok, Err, OnOk, IfOk, zero, suc, [], ◌∷◌}
-use Rattle.std.proofs.lemmas.List.{take_all}
-use Rattle.host_io.specs.Disk.{Disk, Area, IsSettled, at_rest, put, settled, IsImage, OnArea, Writes, TakesStep, Syncs}
+use Rattle.std.proofs.Common.{◌≡◌, ◌≤◌, ℕ, List, length, take, refl, sym, ◌∙◌, ap, subst, Option, Some, Result, Ok, Err, OnOk, IfOk}
+use Rattle.host_io.specs.Disk.{Disk, Area, IsSettled, at_rest, put, IsImage, OnArea, Writes, TakesStep, Syncs}
 use Rattle.host_io.specs.Moments.{Left, Leaves, Elapses, LeavesOnly, IsShown}
 use Rattle.host_io.proofs.Moments.{started, goes_on}
 use Rattle.host_io.proofs.Settled.{at_rest_image}

@@ -1,6 +1,6 @@
 -- The first area is changed, call by call, and a stop leaves what has P of it.
-use Rattle.std.proofs.Common.{◌≡◌, ℕ, List, refl, sym, ◌∙◌, ap, subst, Option, Some, None}
-use Rattle.host_io.specs.Disk.{Disk, IsSettled, at_rest, IsImage}
+use Rattle.std.proofs.Common.{◌≡◌, ℕ, List, refl, sym, ◌∙◌, subst, Option, Some, None}
+use Rattle.host_io.specs.Disk.{Disk, IsSettled, IsImage}
 use Rattle.host_io.specs.Moments.{Left, Leaves, Elapses, LeavesOnly, IsShown}
 use Rattle.host_io.proofs.Moments.{started, goes_on}
 use Rattle.host_io.proofs.Settled.{at_rest_image}

@@ -1,7 +1,6 @@
 -- The grammar of an area: an open header gate and the header, entries behind open gates, a closed gate, and anything.
-use Rattle.std.specs.Prelude.{◌≡◌, ◌≢◌, ◌≤◌, ◌+◌, ◌⊎◌, ℕ, List, [], ◌∷◌, ◌++◌, length, get_or, take, drop, All}
+use Rattle.std.specs.Prelude.{◌≡◌, ◌≢◌, ◌≤◌, ◌+◌, ◌⊎◌, ℕ, List, [], ◌∷◌, ◌++◌, length, get_or, take, All}
 use Rattle.area_layout.specs.Layout.{header_bytes, head_bytes}
-use Rattle.area_layout.specs.declared.header.Header.{Header}
 
 pub record Entry : Type 0 where
   pub kind : ℕ
@@ -39,14 +38,14 @@ abbrev pub gate_place : List Entry → ℕ
 gate_place entries = 17 + length (spelling entries)
 
 -- The gate behind the last entry is not past the limit, and so none is. Without entries the limit says nothing.
-abbrev pub Fits : ℕ → List Entry → Type 0
-Fits limit [] = Unit {0}
-Fits limit (e ∷ es) = gate_place (e ∷ es) ≤ limit
+abbrev pub IsWithinLimit : ℕ → List Entry → Type 0
+IsWithinLimit limit [] = Unit {0}
+IsWithinLimit limit (e ∷ es) = gate_place (e ∷ es) ≤ limit
 
 -- the area begins with the header and these entries, and this is the rest of it
-pub record Begins (b : Bounds) (area : List ℕ) (entries : List Entry) (rest : List ℕ) : Type 0 where
+pub record BeginsWithEntries (b : Bounds) (area : List ℕ) (entries : List Entry) (rest : List ℕ) : Type 0 where
   pub each : All (IsEntry b) entries
-  pub fits : Fits b.limit entries
+  pub fits : IsWithinLimit b.limit entries
   pub spelled : area ≡ top ++ spelling entries ++ rest
 
 -- The area stands for these entries: behind them there is a closed gate, and anything behind it.
@@ -54,7 +53,7 @@ pub record Stands (b : Bounds) (area : List ℕ) (entries : List Entry) : Type 0
   pub gate : ℕ
   pub more : List ℕ
   pub closed : gate ≢ 1
-  pub begins : Begins b area entries (gate ∷ more)
+  pub begins : BeginsWithEntries b area entries (gate ∷ more)
 
 -- a fresh area has no byte or one, or its header gate is closed
 abbrev pub IsFresh : List ℕ → Type 0
@@ -76,10 +75,10 @@ pub record OffendsAtTop (area : List ℕ) (at : ℕ) : Type 0 where
 pub record OffendsBehind (b : Bounds) (area : List ℕ) (at : ℕ) : Type 0 where
   pub entries : List Entry
   pub rest : List ℕ
-  pub begins : Begins b area entries rest
+  pub begins : BeginsWithEntries b area entries rest
   pub place : at ≡ gate_place entries
   pub offence : (rest ≡ []) ⊎ IsBroken b at rest
 
 -- the area neither is fresh nor stands for entries, and this is the place where it offends
-abbrev pub Offends : Bounds → List ℕ → ℕ → Type 0
-Offends b area at = OffendsAtTop area at ⊎ OffendsBehind b area at
+abbrev pub OffendsAt : Bounds → List ℕ → ℕ → Type 0
+OffendsAt b area at = OffendsAtTop area at ⊎ OffendsBehind b area at

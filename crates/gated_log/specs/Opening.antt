@@ -1,6 +1,6 @@
 -- What becomes of an area that is opened.
 use Rattle.std.specs.Prelude.{◌≡◌, ℕ, List, [], ◌∷◌, ◌++◌, drop}
-use Rattle.gated_log.specs.Entries.{Bounds, Begins, IsFresh, top}
+use Rattle.gated_log.specs.Entries.{Bounds, BeginsWithEntries, IsFresh, top}
 
 -- the header and a closed gate stand over what was there
 abbrev pub initialised : List ℕ → List ℕ
@@ -11,4 +11,4 @@ pub record Opens (b : Bounds) (old new : List ℕ) : Type 0 where
   pub fresh : IsFresh old → new ≡ initialised old
   pub other : (IsFresh old → ⊥) → new ≡ old
   pub rest : List ℕ
-  pub begins : Begins b new [] rest
+  pub begins : BeginsWithEntries b new [] rest

@@ -1,6 +1,6 @@
 -- What contracts see of a log and of a reader, and how they stand to the first area.
 use Rattle.std.specs.Prelude.{◌≡◌, ◌⊎◌, ◌+◌, ℕ, Bool, List, [], ◌∷◌, ◌++◌, length}
-use Rattle.gated_log.specs.Entries.{Bounds, Entry, Begins, Stands, gate_place}
+use Rattle.gated_log.specs.Entries.{Bounds, Entry, BeginsWithEntries, Stands, gate_place}
 
 -- the place of a log's closed gate, and the limit of the gates behind its entries
 pub record LogState : Type 0 where
@@ -15,12 +15,12 @@ pub record ReaderState : Type 0 where
   pub finished : Bool
 
 -- the area stands for entries, with the closed gate behind them at this place
-abbrev pub IsReady : Bounds → ℕ → List ℕ → Type 0
-IsReady b end area = (entries : List Entry) × Stands b area entries × (gate_place entries ≡ end)
+abbrev pub IsClosedAt : Bounds → ℕ → List ℕ → Type 0
+IsClosedAt b end area = (entries : List Entry) × Stands b area entries × (gate_place entries ≡ end)
 
 -- the area begins with entries, and the gate behind them stands at this place
 abbrev pub IsBegun : Bounds → ℕ → List ℕ → Type 0
-IsBegun b gate area = (entries : List Entry) × (rest : List ℕ) × Begins b area entries rest × (gate_place entries ≡ gate)
+IsBegun b gate area = (entries : List Entry) × (rest : List ℕ) × BeginsWithEntries b area entries rest × (gate_place entries ≡ gate)
 
 -- the new area stands for the entries of the old one and this one, behind whose payload the closed gate stands
 abbrev pub Appended : Bounds → ℕ → Entry → List ℕ → List ℕ → Type 0

@@ -6,7 +6,7 @@ ghost use Rattle.host_io.specs.Disk.{Disk, IsSettled};
 ghost use Rattle.host_io.specs.Moments.{LeavesOnly};
 ghost use Rattle.gated_log.specs.Entries.{within};
 ghost use Rattle.gated_log.specs.Fault.{FullSays, IsFull};
-ghost use Rattle.gated_log.specs.State.{Appended, BeforeOrAfter, IsReady, LogState};
+ghost use Rattle.gated_log.specs.State.{Appended, BeforeOrAfter, IsClosedAt, LogState};
 ghost use Rattle.gated_log.specs.Stops.{AtFirst};
 
 use crate::writing::{settle_write, write_entry};
@@ -60,7 +60,7 @@ fn add_entry<H: Host>(
     requires greatest_kind { kind ≤ 2 }
     requires size { length payload.now ≤ 8388608 }
     requires room { end + 6 + length payload.now ≤ limit }
-    requires ready { ForSome (H.disk host.old) (λ d. IsSettled d × IsReady (within limit) end d.first.reads) }
+    requires ready { ForSome (H.disk host.old) (λ d. IsSettled d × IsClosedAt (within limit) end d.first.reads) }
 
     ensures ok { IfOk result (λ _. ForSome (H.disk host.old) (λ d. (e : Disk) × (H.disk host.new ≡ Some e) × IsSettled e × (e.second ≡ d.second)
         × Appended (within limit) end (record { kind = kind; payload = payload.now }) d.first.reads e.first.reads)) }
@@ -99,7 +99,7 @@ impl Log {
         requires least_kind { 1 ≤ kind }
         requires greatest_kind { kind ≤ 2 }
         requires size { length payload.now ≤ 8388608 }
-        requires ready { ForSome (H.disk host.old) (λ d. IsSettled d × IsReady (within self.limit) self.end d.first.reads) }
+        requires ready { ForSome (H.disk host.old) (λ d. IsSettled d × IsClosedAt (within self.limit) self.end d.first.reads) }
 
         ensures log { IfOk result (λ log. (log.limit ≡ self.limit) × (log.end ≡ self.end + 6 + length payload.now)) }
 

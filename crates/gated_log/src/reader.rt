@@ -9,7 +9,7 @@ ghost use Rattle.gated_log.specs.Fault.{FaultSays};
 ghost use Rattle.gated_log.specs.Front.{HasPayload};
 ghost use Rattle.gated_log.specs.Opening.{Opens};
 ghost use Rattle.gated_log.specs.Reading.{AnswersNext, HasRead, Moves};
-ghost use Rattle.gated_log.specs.State.{IsBegun, IsReady, ReaderState};
+ghost use Rattle.gated_log.specs.State.{IsBegun, IsClosedAt, ReaderState};
 ghost use Rattle.gated_log.specs.Stops.{AtFirst, AtOpening, HoldsNothing};
 
 use crate::Log;

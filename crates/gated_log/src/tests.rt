@@ -3,7 +3,7 @@ ghost use Rattle.std.specs.Prelude.{◌≤◌, length, vec_len, IfOk};
 ghost use Rattle.std.specs.Option.{ForSome};
 ghost use Rattle.host_io.specs.Disk.{IsSettled};
 ghost use Rattle.gated_log.specs.Entries.{within};
-ghost use Rattle.gated_log.specs.State.{IsReady};
+ghost use Rattle.gated_log.specs.State.{IsClosedAt};
 
 use super::*;
 use host_io::{Areas, Bytes, Calls, Host, MemHost};
@@ -38,7 +38,7 @@ enum Added {
 // Reads each entry, and answers the log, how many there are, and the last one's gate.
 fn read_all<H: Host>(host: &mut H, limit: u64, buf: &mut [u8]) -> Result<(Log, u64, u64), LogFault>
     requires room { 8388608 ≤ length buf.old }
-    ensures { IfOk result (λ read. ForSome (H.disk host.new) (λ d. IsSettled d × IsReady (within read.0.limit) read.0.end d.first.reads)) }
+    ensures { IfOk result (λ read. ForSome (H.disk host.new) (λ d. IsSettled d × IsClosedAt (within read.0.limit) read.0.end d.first.reads)) }
 {
     let mut reader = Reader::load(host, limit)?;
     let mut count = 0u64;

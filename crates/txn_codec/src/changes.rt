@@ -1,6 +1,6 @@
 //! Writing the payload of a transaction.
 
-ghost use Rattle.std.specs.Prelude.{◌≡◌, ◌+◌, ◌≤◌, ◌++◌, length, OnOk, OnErr, IsOk, All, vec_len, vec_capacity};
+ghost use Rattle.std.specs.Prelude.{◌≡◌, ◌+◌, ◌*◌, ◌≤◌, ◌++◌, length, OnOk, OnErr, IsOk, All, vec_len, vec_capacity};
 ghost use Rattle.std.specs.List.{flat_map};
 ghost use Rattle.txn_codec.specs.Changes.{changes_payload};
 ghost use Rattle.txn_codec.specs.Spelling.{row_bytes, change_bytes, changes_bytes, HasNames};
@@ -10,10 +10,11 @@ use crate::put::{name_len, put, put_name};
 use dl_base::{NamedChange, NamedRow};
 use std::alloc::AllocError;
 
-/// How many bytes `write_changes` appends for these changes. It takes no memory.
+/// How many bytes `write_changes` appends for these changes: at most 770 for each, and 4. It takes no memory.
 pub fn changes_len(changes: &[NamedChange]) -> u64
     requires { length changes.now ≤ 4294967295 }
-    ensures { result ≡ length (changes_bytes changes.now) }
+    ensures len { result ≡ length (changes_bytes changes.now) }
+    ensures most { result ≤ 4 + 770 * length changes.now }
 {
     let mut len = 4;
     for change in changes {

@@ -1,6 +1,6 @@
 //! Writing the payload of an ontology.
 
-ghost use Rattle.std.specs.Prelude.{◌≡◌, ◌≤◌, ◌+◌, ◌∷◌, ◌++◌, length, OnOk, OnErr, IsOk, All};
+ghost use Rattle.std.specs.Prelude.{◌≡◌, ◌≤◌, ◌+◌, ◌*◌, ◌∷◌, ◌++◌, length, OnOk, OnErr, IsOk, All};
 ghost use Rattle.std.specs.List.{flat_map};
 ghost use Rattle.byteorder.specs.Endian.{big_bytes};
 ghost use Rattle.dl_base.specs.Names.{IsName};
@@ -13,9 +13,11 @@ use crate::put::{name_len, put, put_name};
 use dl_base::{Basic, Head, Inclusion, NameBook, Ontology};
 use std::alloc::AllocError;
 
-/// How many bytes `write_ontology` appends for this ontology. It takes no memory.
+/// How many bytes `write_ontology` appends for this ontology, at most 311,302. It takes no memory.
 pub fn ontology_len(o: &Ontology) -> u64
-    ensures { result ≡ length (ontology_bytes o.now) }
+    ensures len { result ≡ length (ontology_bytes o.now) }
+    // 512 concepts and 256 roles of 256 bytes each, 4,096 inclusions of 28, and a count of 2 bytes for each of the three.
+    ensures most { result ≤ 311302 }
 {
     names_len(o.concepts()) + (names_len(o.roles()) + inclusions_len(o.inclusions()))
 }
@@ -23,7 +25,7 @@ pub fn ontology_len(o: &Ontology) -> u64
 fn names_len(book: &NameBook) -> u64
     requires { length book.now ≤ 512 }
     ensures len { result ≡ length (names_bytes book.now) }
-    ensures most { result ≤ 131074 }
+    ensures most { result ≤ 2 + 256 * length book.now }
 {
     let mut len = 2;
     let count = book.len() as u32;

@@ -2,7 +2,6 @@ use Rattle.std.proofs.Common.{◌≡◌, ◌∙◌, ◌-◌, ◌++◌, [], List,
 use Rattle.std.proofs.lemmas.List.{get_or-take, length-take}
 use Rattle.area_layout.specs.Layout.{HeaderAt, IsHeader, header_bytes}
 use Rattle.area_layout.specs.declared.header.Header.{Header}
-use Rattle.gated_log.specs.Entries.{top}
 use Rattle.gated_log.proofs.front.front_of.Goals as goal
 
 pub returns-in_default : goal.returns-in_default

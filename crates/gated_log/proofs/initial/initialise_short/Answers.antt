@@ -1,6 +1,5 @@
-use Rattle.std.proofs.Common.{◌≡◌, ◌≢◌, ◌∙◌, ◌≤◌, [], ◌∷◌, List, ℕ, length, get_or, inl, inr, refl, sym, ap, subst, arith, Some}
+use Rattle.std.proofs.Common.{◌≡◌, ◌≢◌, ◌∙◌, ◌≤◌, [], ◌∷◌, List, ℕ, length, get_or, inl, refl, sym, ap, subst, arith, Some}
 use Rattle.host_io.specs.Disk.{Disk, IsSettled, at_rest, put}
-use Rattle.gated_log.specs.Opening.{initialised}
 use Rattle.gated_log.specs.Stops.{HoldsNothing}
 use Rattle.gated_log.proofs.Fresh.{short_initial, short_put, short_stays}
 use Rattle.gated_log.proofs.Joined.{joined_first, weaker_first}

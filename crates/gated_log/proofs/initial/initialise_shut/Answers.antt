@@ -1,8 +1,7 @@
-use Rattle.std.proofs.Common.{◌≡◌, ◌∙◌, ◌≤◌, [], ◌∷◌, List, ℕ, length, inl, inr, refl, sym, ap, subst, arith, Some}
+use Rattle.std.proofs.Common.{◌≡◌, ◌∙◌, ◌≤◌, [], ◌∷◌, List, ℕ, length, inl, refl, sym, ap, subst, arith, Some}
 use Rattle.host_io.specs.Disk.{Disk, IsSettled, IsTorn, at_rest, put}
-use Rattle.gated_log.specs.Opening.{initialised}
 use Rattle.gated_log.specs.Stops.{HoldsNothing}
-use Rattle.gated_log.proofs.Fresh.{closed_top, gate_turns, initial_is, shut_stays}
+use Rattle.gated_log.proofs.Fresh.{gate_turns, initial_is, shut_stays}
 use Rattle.gated_log.proofs.Joined.{joined_first, weaker_first}
 use Rattle.gated_log.proofs.Runs.{same_some, was_told}
 use Rattle.gated_log.proofs.Running.{on_ok, was_ok}

@@ -1,9 +1,9 @@
-use Rattle.std.proofs.Common.{◌≡◌, ◌⊎◌, inl, inr, ◌+◌, ◌≤◌, ◌<◌, [], ◌∷◌, ◌++◌, List, ℕ, length, get_or, refl, sym, ◌∙◌, ap, subst, arith, Some, Ok}
+use Rattle.std.proofs.Common.{◌≡◌, ◌⊎◌, inl, ◌+◌, ◌≤◌, ◌<◌, [], ◌∷◌, ◌++◌, ℕ, length, get_or, refl, sym, ◌∙◌, ap, subst, arith, Some}
 use Rattle.host_io.specs.Disk.{Disk, IsSettled, at_rest, put}
 use Rattle.host_io.specs.Moments.{LeavesOnly}
 use Rattle.host_io.proofs.Moments.{joined, weaker}
 use Rattle.gated_log.specs.Entries.{Entry, IsEntry, Stands, body, within}
-use Rattle.gated_log.specs.State.{Appended, BeforeOrAfter}
+use Rattle.gated_log.specs.State.{BeforeOrAfter}
 use Rattle.gated_log.specs.Stops.{AtFirst}
 use Rattle.gated_log.proofs.Behind.{same_front, either, opened, gate_within, place_more}
 use Rattle.gated_log.proofs.Runs.{was_told, same_some}

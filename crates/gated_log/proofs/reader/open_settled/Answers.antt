@@ -1,5 +1,4 @@
-use Rattle.std.proofs.Common.{◌≡◌, ◌∙◌, List, ℕ, inl, inr, refl, sym, ap, subst, Some}
-use Rattle.host_io.specs.Disk.{Disk, IsSettled}
+use Rattle.std.proofs.Common.{◌∙◌, inl, inr, refl}
 use Rattle.gated_log.specs.Entries.{IsFresh}
 use Rattle.gated_log.proofs.Fresh.{opens_fresh, opens_whole}
 use Rattle.gated_log.proofs.Gates.{copied}

@@ -1,4 +1,4 @@
-use Rattle.std.proofs.Common.{◌≡◌, ◌∙◌, ◌+◌, List, ℕ, length, inl, inr, refl, sym, ap, subst, arith, take, drop}
+use Rattle.std.proofs.Common.{◌∙◌, ◌+◌, inr, refl, ap, subst, arith, take, drop}
 use Rattle.gated_log.specs.Entries.{within}
 use Rattle.gated_log.specs.Front.{HasPayload}
 use Rattle.gated_log.proofs.Gates.{copied, cut_off, ends, goes_on, offends, rest_at}

@@ -1,5 +1,5 @@
-use Rattle.std.proofs.Common.{◌≡◌, ◌∙◌, List, ℕ, refl, sym, ap, subst}
-use Rattle.host_io.specs.Disk.{Area, Disk, IsImage, at_rest}
+use Rattle.std.proofs.Common.{◌≡◌, ◌∙◌, List, ℕ, refl, subst}
+use Rattle.host_io.specs.Disk.{Area, IsImage}
 use Rattle.host_io.proofs.Settled.{at_rest_image}
 use Rattle.gated_log.proofs.Runs.{begun, quiet}
 use Rattle.gated_log.proofs.reader.read_first.Goals as goal

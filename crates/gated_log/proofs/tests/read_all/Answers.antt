@@ -2,7 +2,7 @@ use Rattle.std.proofs.Common.{◌≡◌, ◌∙◌, arith, sym, ap, subst, Ok}
 use Rattle.host_io.specs.Disk.{IsSettled}
 use Rattle.gated_log.specs.Entries.{within}
 use Rattle.gated_log.specs.Reading.{AnswersNext, Moves}
-use Rattle.gated_log.specs.State.{IsBegun, IsReady, LogState, ReaderState}
+use Rattle.gated_log.specs.State.{IsBegun, IsClosedAt, LogState, ReaderState}
 use Rattle.gated_log.specs.declared.reader.Next.{Next}
 use Rattle.gated_log.proofs.Reading.{begun_first, begun_on, ready_at}
 use Rattle.gated_log.proofs.tests.read_all.Goals as goal
@@ -38,5 +38,5 @@ returns-in-Finished g c = λ e told.
     let before = sym c.in_ok-next.ensures.disk ∙ told in
     let begun = c.loop-count.invariant.begun e before in
     let all = subst (λ (n : Next). AnswersNext old e.first.reads c.next.new.buf n) c.in-Finished.is (c.in_ok-next.ensures.ok e before) in
-    subst (λ (l : LogState). IsSettled e × IsReady (within l.limit) l.end e.first.reads) (sym log)
+    subst (λ (l : LogState). IsSettled e × IsClosedAt (within l.limit) l.end e.first.reads) (sym log)
     (begun.0, ready_at (within old.limit) old.gate e.first.reads begun.1 all)

@@ -1,5 +1,5 @@
-use Rattle.std.proofs.Common.{◌≡◌, ℕ, List, refl, ◌+◌, [], ◌∷◌, ◌++◌, length, sym, ◌∙◌, ap, subst, arith, Some, Ok, length-append, append_assoc}
-use Rattle.host_io.specs.Disk.{at_rest, put, Disk, TakesStep, Syncs}
+use Rattle.std.proofs.Common.{ℕ, List, refl, ◌+◌, [], ◌∷◌, ◌++◌, length, ◌∙◌, ap, subst, arith, Some}
+use Rattle.host_io.specs.Disk.{at_rest, put, TakesStep, Syncs}
 use Rattle.area_layout.specs.Layout.{head_bytes}
 use Rattle.gated_log.proofs.Running.{begun, written, synced, on_disk, on_ok}
 use Rattle.gated_log.proofs.Puts.{three_puts}

@@ -2,13 +2,13 @@ use Rattle.std.proofs.Common.{◌≡◌, inl, subst, sym, Some}
 use Rattle.host_io.specs.Disk.{Disk, IsSettled}
 use Rattle.host_io.proofs.Moments.{started}
 use Rattle.gated_log.specs.Entries.{Entry, within}
-use Rattle.gated_log.specs.State.{Appended, BeforeOrAfter, IsReady, LogState}
+use Rattle.gated_log.specs.State.{Appended, BeforeOrAfter, IsClosedAt, LogState}
 use Rattle.gated_log.proofs.Runs.{at_start}
 use Rattle.gated_log.proofs.log.Log.append.Goals as goal
 
 pub add_entry-requires-clause-ready : goal.add_entry-requires-clause-ready
 add_entry-requires-clause-ready g c = λ d told.
-    subst (λ (l : LogState). IsSettled d × IsReady (within l.limit) l.end d.first.reads) (sym c.self.view_is) (c.requires.ready d told)
+    subst (λ (l : LogState). IsSettled d × IsClosedAt (within l.limit) l.end d.first.reads) (sym c.self.view_is) (c.requires.ready d told)
 
 pub returns-in_default-clause-moments : goal.returns-in_default-clause-moments
 returns-in_default-clause-moments g c = λ d told.

@@ -1,5 +1,5 @@
-use Rattle.std.proofs.Common.{◌≡◌, ◌∙◌, List, ℕ, inl, inr, refl, sym, ap, subst, Some}
-use Rattle.host_io.specs.Disk.{Area, Disk, settled}
+use Rattle.std.proofs.Common.{◌≡◌, ◌∙◌, inr, ap, Some}
+use Rattle.host_io.specs.Disk.{Area, settled}
 use Rattle.gated_log.specs.Entries.{within}
 use Rattle.gated_log.proofs.Opened.{opened}
 use Rattle.gated_log.proofs.reader.Reader.load.Goals as goal
