@@ -1,7 +1,7 @@
 -- An area keeps one history, or offends at one place, and never both.
-use Rattle.std.proofs.Common.{◌≡◌, ◌≢◌, ◌⊎◌, ◌≤◌, ◌+◌, ⊎_elim, ℕ, List, [], ◌∷◌, ◌++◌, length, get_or, drop, refl, sym, ◌∙◌, ap, subst, arith, append_assoc}
+use Rattle.std.proofs.Common.{◌≡◌, ◌≢◌, ◌⊎◌, ⊎_elim, ℕ, List, [], ◌∷◌, ◌++◌, length, get_or, drop, refl, sym, ◌∙◌, ap, subst, arith, append_assoc}
 use Rattle.std.specs.List.{All}
-use Rattle.gated_log.specs.Entries.{Begins, Entry, Fits, IsEntry, IsFresh, body, gate_place, spelling, within}
+use Rattle.gated_log.specs.Entries.{BeginsWithEntries, Entry, IsWithinLimit, IsEntry, IsFresh, body, gate_place, spelling, within}
 use Rattle.gated_log.proofs.LawLemmas.{alone, begins_top, begun_twice, closed_ends, fresh_has_no_header, inner_entry, inner_fits, stands_once}
 use Rattle.base_store.specs.History.{History, Empty}
 use Rattle.base_store.specs.Legal.{Leads, Tells}
@@ -9,7 +9,7 @@ use Rattle.base_store.specs.Area.{HoldsHistory, IsDamagedBehind, IsStuck, area_l
 use Rattle.base_store.specs.Laws.{DamagedOnce, KeepsOnce, KeepsOrIsDamaged}
 use Rattle.base_store.proofs.Told.{leads_once, leads_split}
 
-held_once : (area : List ℕ) (g h : History) → HoldsHistory area g → HoldsHistory area h → g ≡ h
+pub held_once : (area : List ℕ) (g h : History) → HoldsHistory area g → HoldsHistory area h → g ≡ h
 held_once area g h a b =
     let same = stands_once (within area_limit) area a.entries b.entries a.stands b.stands in
     leads_once Empty b.entries g h (subst (λ (es : List Entry). Tells es g) same a.told) b.told
@@ -31,13 +31,13 @@ keeps_once area g h first second = ⊎_elim
 
 -- where an area is damaged, no longer list of legal entries begins it
 damage_ends : (area : List ℕ) (at : ℕ) (d : IsDamagedBehind area at) (more : List Entry) (fs : List Entry) (ys : List ℕ) (h : History)
-    → Begins (within area_limit) area fs ys → Tells fs h → fs ≡ d.entries ++ more → d.rest ≡ spelling more ++ ys → more ≡ []
+    → BeginsWithEntries (within area_limit) area fs ys → Tells fs h → fs ≡ d.entries ++ more → d.rest ≡ spelling more ++ ys → more ≡ []
 damage_ends area at d [] fs ys h begins told all rest = refl
 damage_ends area at d (m ∷ ms) fs ys h begins told all rest = absurd (⊎_elim
     (λ none. let e : 0 ≡ length (1 ∷ body m ++ spelling ms ++ ys) = ap length (sym none ∙ rest) in omega (arith, e))
     (λ stuck.
     let each = subst (All (IsEntry (within area_limit))) all begins.each in
-    let fits = subst (Fits area_limit) all begins.fits in
+    let fits = subst (IsWithinLimit area_limit) all begins.fits in
     let split = leads_split Empty d.entries (m ∷ ms) h (subst (λ (es : List Entry). Tells es h) all told) in
     let next = subst (λ (k : History). Leads k (m ∷ ms) h) (leads_once Empty d.entries split.0 d.history split.1 d.told) split.2 in
     stuck.not_legal m (spelling ms ++ ys) next.0 (inner_entry (within area_limit) d.entries m ms each) (omega (arith, d.place, inner_fits area_limit d.entries m ms fits))

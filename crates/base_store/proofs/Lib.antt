@@ -1,2 +1,13 @@
 pub mod Told
 pub mod Areas
+pub mod Adding
+pub mod AfterChanges
+pub mod Following
+pub mod Counts
+pub mod ListedRows
+pub mod Bytes
+pub mod Taking
+pub mod EntriesRead
+pub mod LoadedRows
+pub mod LoadMoments
+pub mod OpenedAreas

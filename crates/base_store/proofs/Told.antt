@@ -1,5 +1,5 @@
 -- The entries of a history: what they tell is one history, and how many bytes they take.
-use Rattle.std.proofs.Common.{◌≡◌, ◌+◌, ℕ, List, [], ◌∷◌, ◌++◌, length, map, refl, sym, ◌∙◌, ap, subst, arith, length-append}
+use Rattle.std.proofs.Common.{◌≡◌, ◌+◌, ℕ, List, [], ◌∷◌, ◌++◌, length, refl, sym, ◌∙◌, ap, subst, arith, length-append}
 use Rattle.std.specs.Prelude.{sum_by}
 use Rattle.std.proofs.lemmas.List.{map-append}
 use Rattle.std.proofs.lemmas.List.Sums.{sum_by-append}
@@ -8,10 +8,10 @@ use Rattle.dl_base.specs.declared.row.NamedChange.{NamedChange}
 use Rattle.txn_codec.specs.Spelling.{changes_bytes, ontology_bytes}
 use Rattle.txn_codec.proofs.Lengths.{changes_have_their_length, ontology_has_its_length}
 use Rattle.txn_codec.proofs.MeanOnce.{changes_once, ontology_once}
-use Rattle.gated_log.specs.Entries.{Entry, body, gate_place, spelling}
+use Rattle.gated_log.specs.Entries.{Entry, body, spelling}
 use Rattle.gated_log.proofs.Behind.{length-body}
 use Rattle.base_store.specs.History.{History, Empty, Over, payloads, used}
-use Rattle.base_store.specs.Legal.{Continues, Leads, Tells}
+use Rattle.base_store.specs.Legal.{Continues, Leads}
 use Rattle.base_store.specs.Laws.{GateStandsAtUsed}
 
 continues_once : (h : History) (e : Entry) (one other : History) → Continues h e one → Continues h e other → one ≡ other

@@ -1,6 +1,6 @@
 -- Which areas keep a history, and where one that keeps none offends.
 use Rattle.std.specs.Prelude.{◌≡◌, ◌⊎◌, ◌+◌, ◌≤◌, ℕ, List, [], ◌∷◌, ◌++◌, length}
-use Rattle.gated_log.specs.Entries.{Begins, Entry, IsEntry, IsFresh, OffendsAtTop, Stands, body, gate_place, within}
+use Rattle.gated_log.specs.Entries.{BeginsWithEntries, Entry, IsEntry, IsFresh, OffendsAtTop, Stands, body, gate_place, within}
 use Rattle.base_store.specs.History.{History, Empty}
 use Rattle.base_store.specs.Legal.{Continues, Tells}
 
@@ -31,7 +31,7 @@ pub record IsDamagedBehind (area : List ℕ) (at : ℕ) : Type 0 where
   pub history : History
   pub told : Tells entries history
   pub rest : List ℕ
-  pub begins : Begins (within area_limit) area entries rest
+  pub begins : BeginsWithEntries (within area_limit) area entries rest
   pub place : at ≡ gate_place entries
   pub offence : (rest ≡ []) ⊎ IsStuck history at rest
 

@@ -1,5 +1,5 @@
 -- Histories: an ontology or none, and behind an ontology its transactions, each a list of changes.
-use Rattle.std.specs.Prelude.{◌≡◌, ◌≢◌, ◌↔◌, ◌⊎◌, ◌+◌, ℕ, true, List, [], ◌∷◌, ◌++◌, length, map, sum_by, Contains}
+use Rattle.std.specs.Prelude.{◌≡◌, ◌≢◌, ◌↔◌, ◌⊎◌, ◌+◌, ℕ, true, List, Option, Some, None, [], ◌∷◌, ◌++◌, length, map, sum_by, Contains}
 use Rattle.dl_base.specs.Ontology.{Terminology}
 use Rattle.dl_base.specs.Rows.{AreRows}
 use Rattle.dl_base.specs.declared.row.NamedRow.{NamedRow}
@@ -14,6 +14,11 @@ abbrev pub transactions : History → List (List NamedChange)
 transactions Empty = []
 transactions (Over o entries) = entries
 
+-- the ontology of a history, where it has one
+abbrev pub ontology_of : History → Option Terminology
+ontology_of Empty = None
+ontology_of (Over o entries) = Some o
+
 -- the history has this ontology
 abbrev pub HasOntology : History → Terminology → Type 0
 HasOntology Empty o = ⊥
@@ -22,10 +27,15 @@ HasOntology (Over p entries) o = p ≡ o
 abbrev pub transaction_count : History → ℕ
 transaction_count h = length (transactions h)
 
--- one transaction more
-abbrev pub with_transaction : History → List NamedChange → History
-with_transaction Empty changes = Empty
-with_transaction (Over o entries) changes = Over o (entries ++ changes ∷ [])
+-- an ontology where there is none
+abbrev pub with_ontology : Terminology → History → History
+with_ontology o Empty = Over o []
+with_ontology o (Over p entries) = Over p entries
+
+-- one transaction more behind an ontology
+abbrev pub with_transaction : List NamedChange → History → History
+with_transaction changes Empty = Empty
+with_transaction changes (Over o entries) = Over o (entries ++ changes ∷ [])
 
 -- what its entries hold, in order
 abbrev pub payloads : History → List (List ℕ)

@@ -5,3 +5,17 @@
 #![tactic(auto)]
 
 pub mod laws;
+mod listing;
+mod load;
+mod loading;
+mod store;
+#[cfg(test)]
+mod untold;
+
+pub use load::{LoadFault, Loaded};
+pub use store::{KeepFault, Store};
+
+#[cfg(test)]
+mod load_tests;
+#[cfg(test)]
+mod tests;

@@ -1,0 +1,9 @@
+use Rattle.assert_tables.specs.Rows.{individuals_of}
+use Rattle.base_store.proofs.ListedRows.{AreListedUpTo, numbers_left}
+use Rattle.base_store.proofs.listing.listed.Given as goal
+
+abbrev pub invariant-loop-individual : goal.invariant-loop-individual
+invariant-loop-individual l = AreListedUpTo l.rows l.after l.list
+
+abbrev pub decreases-loop-individual : goal.decreases-loop-individual
+decreases-loop-individual l = numbers_left l.after (individuals_of l.rows)

@@ -1,0 +1,46 @@
+// The rows as a list.
+ghost use Rattle.std.specs.Prelude.{IfOk, OnOk};
+ghost use Rattle.base_store.specs.Loading.{IsListOf, ListsFrom, ListsRow};
+
+use assert_tables::Assertions;
+use dl_base::{Row, RowList};
+use std::alloc::{AllocError, Global};
+
+/// The rows as a list, each once.
+pub(crate) fn listed(alloc: Global, rows: &Assertions) -> Result<RowList, AllocError>
+    ensures { IfOk result (IsListOf rows.now) }
+{
+    let mut list = RowList::new(alloc);
+    let mut after = None;
+    while let Some(individual) = rows.next_individual(after) {
+        list_from(individual, rows, &mut list)?;
+        after = Some(individual);
+    }
+    Ok(list)
+}
+
+/// Appends the rows whose first individual this is.
+fn list_from(individual: u32, rows: &Assertions, list: &mut RowList) -> Result<(), AllocError>
+    ensures { OnOk result (ListsFrom individual rows.now list.old list.new) }
+{
+    let mut after = None;
+    while let Some(row) = rows.next_of(individual, after) {
+        list_row(individual, row, list)?;
+        after = Some(row);
+    }
+    Ok(())
+}
+
+/// Appends the row where its first individual is this one.
+fn list_row(individual: u32, row: Row, list: &mut RowList) -> Result<(), AllocError>
+    ensures { OnOk result (ListsRow individual row list.old list.new) }
+{
+    let first = match row {
+        Row::Concept { individual, .. } => individual,
+        Row::Role { from, .. } => from,
+    };
+    if first == individual {
+        list.push(row)?;
+    }
+    Ok(())
+}

@@ -1,0 +1,273 @@
+// What the entries of a log come to while they are read.
+ghost use Rattle.std.specs.Prelude.{◌≡◌, ◌≤◌, ◌+◌, ◌*◌, ◌↔◌, ℕ, [], true, false, List, All, IfOk, IsTrue, MatchBool, MatchOption, OnOk, length};
+ghost use Rattle.assert_tables.specs.Rows.{AreRisingRows};
+ghost use Rattle.dl_base.specs.Axiom.{with_names};
+ghost use Rattle.dl_base.specs.Numbers.{IsPlaceOf, NumbersRow, names_in};
+ghost use Rattle.dl_base.specs.Ontology.{Terminology, IsTerminology};
+ghost use Rattle.dl_base.specs.declared.row.NamedChange.{NamedChange as AnyChange};
+ghost use Rattle.dl_base.specs.declared.row.Row.{Row as AnyRow};
+ghost use Rattle.txn_codec.specs.Changes.{changes_payload};
+ghost use Rattle.base_store.specs.History.{Empty, History, Over, used};
+ghost use Rattle.base_store.specs.Legal.{Continues, IsNamedBy, IsNextTransaction};
+ghost use Rattle.base_store.specs.Loaded.{HasRows};
+ghost use Rattle.base_store.specs.Loading.{AreFew, FollowsChange, FollowsChanges, FollowsNext, Keeps, KeepsNext, TakesPayload};
+
+use assert_tables::Assertions;
+use dl_base::{NameBook, NamedChange, NamedRow, Ontology, Row};
+use std::alloc::{AllocError, Global};
+use txn_codec::{CodecError, count_of_changes, read_changes, read_ontology};
+
+/// The ontology, the rows by number, the book of their individuals and the number of transactions, behind the entries that
+/// were taken.
+#[derive(Drop)]
+pub struct Loading {
+    pub ontology: Option<Ontology>,
+    pub individuals: NameBook,
+    pub rows: Assertions,
+    pub transactions: u64,
+}
+
+impl Loading {
+    /// Before the first entry. It takes no memory.
+    pub(crate) fn new(alloc: Global) -> Loading
+        ensures { Keeps result Empty }
+    {
+        Loading {
+            ontology: None,
+            individuals: NameBook::new(alloc),
+            rows: Assertions::new(alloc),
+            transactions: 0,
+        }
+    }
+
+    /// Takes the next entry, and answers whether it is a legal one; where it isn't, or at `AllocError`, what was taken is
+    /// given up.
+    pub(crate) fn take(
+        &mut self,
+        alloc: Global,
+        kind: u8,
+        payload: &[u8],
+    ) -> Result<bool, AllocError>
+        requires { (h : History) × Keeps self.old h × (used h ≤ 1073741824) }
+        ensures { (h : History) → Keeps self.old h → IfOk result (λ legal. MatchBool legal
+            (KeepsNext h (record { kind = kind; payload = payload.now }) self.new)
+            ((next : History) → Continues h (record { kind = kind; payload = payload.now }) next → ⊥)) }
+    {
+        match &self.ontology {
+            None if kind == 1 => match read_ontology(alloc, payload) {
+                Ok(ontology) => {
+                    self.ontology = Some(ontology);
+                    Ok(true)
+                }
+                Err(CodecError::Bad(_)) => Ok(false),
+                Err(CodecError::NoMemory) => Err(AllocError),
+            },
+            Some(ontology) if kind == 2 => {
+                let legal = take_transaction(
+                    alloc,
+                    ontology,
+                    &mut self.individuals,
+                    &mut self.rows,
+                    payload,
+                )?;
+                self.transactions += 1;
+                Ok(legal)
+            }
+            _ => Ok(false),
+        }
+    }
+}
+
+/// Makes the changes of a transaction, and answers whether it is a legal one.
+fn take_transaction(
+    alloc: Global,
+    ontology: &Ontology,
+    individuals: &mut NameBook,
+    rows: &mut Assertions,
+    payload: &[u8],
+) -> Result<bool, AllocError>
+    requires { length individuals.old ≤ 3000000000 }
+    ensures { (before : List (List AnyChange)) → HasRows (Over ontology.now before) individuals.old rows.old
+        → IfOk result (λ legal. MatchBool legal
+        (TakesPayload payload.now ontology.now before individuals.old individuals.new rows.new)
+        ((changes : List AnyChange) → changes_payload payload.now changes → IsNextTransaction ontology.now before changes → ⊥)) }
+{
+    if !is_short(payload) {
+        return Ok(false);
+    }
+    match read_changes(alloc, payload) {
+        Ok(changes) => take_changes(ontology, individuals, rows, changes.items()),
+        Err(CodecError::Bad(_)) => Ok(false),
+        Err(CodecError::NoMemory) => Err(AllocError),
+    }
+}
+
+/// Whether bytes that are the payload of changes have at most 10,000 of them. They aren't read.
+fn is_short(payload: &[u8]) -> bool
+    ensures { MatchBool result
+        ((changes : List AnyChange) → changes_payload payload.now changes → length changes ≤ 10000)
+        ((changes : List AnyChange) → changes_payload payload.now changes → length changes ≤ 10000 → ⊥) }
+{
+    match count_of_changes(payload) {
+        Some(count) => count <= 10_000,
+        None => false,
+    }
+}
+
+/// Makes so few changes, and answers whether they are legal behind the transactions before.
+fn take_changes(
+    ontology: &Ontology,
+    individuals: &mut NameBook,
+    rows: &mut Assertions,
+    changes: &[NamedChange],
+) -> Result<bool, AllocError>
+    requires few { length changes.now ≤ 10000 }
+    requires names { length individuals.old ≤ 3000000000 }
+    ensures names { IfOk result (λ legal. length individuals.new ≤ length individuals.old + 2 * length changes.now) }
+    ensures taken { (before : List (List AnyChange)) → HasRows (Over ontology.now before) individuals.old rows.old
+        → IfOk result (λ legal. MatchBool legal
+        (FollowsNext ontology.now before changes.now individuals.new rows.new)
+        (IsNextTransaction ontology.now before changes.now → ⊥)) }
+{
+    if !make_all(ontology, individuals, rows, changes)? {
+        return Ok(false);
+    }
+    // An ontology says of itself that its names are distinct.
+    let _ = ontology.concepts();
+    Ok(are_few(rows))
+}
+
+/// Whether the rows are within the limits.
+fn are_few(rows: &Assertions) -> bool
+    ensures few { IsTrue result ↔ AreFew rows.now }
+    ensures rising { AreRisingRows rows.now }
+{
+    rows.rows() <= 1_000_000 && rows.individuals() <= 65_536
+}
+
+/// Makes the changes in order, and answers whether the ontology has the concept or the role of each. The first one of
+/// which it hasn't ends them.
+fn make_all(
+    ontology: &Ontology,
+    individuals: &mut NameBook,
+    rows: &mut Assertions,
+    changes: &[NamedChange],
+) -> Result<bool, AllocError>
+    requires few { length changes.now ≤ 10000 }
+    requires names { length individuals.old ≤ 3000000000 }
+    ensures names { IfOk result (λ named. length individuals.new ≤ length individuals.old + 2 * length changes.now) }
+    ensures made { IfOk result (λ named. MatchBool named
+        (FollowsChanges ontology.now changes.now individuals.old rows.old individuals.new rows.new)
+        (All (λ c. IsNamedBy ontology.now c.row) changes.now → ⊥)) }
+    ensures named { IfOk result (λ named. IsTrue named → All (λ c. IsNamedBy ontology.now c.row) changes.now) }
+{
+    for change in changes {
+        if !make(ontology, individuals, rows, change)? {
+            return Ok(false);
+        }
+    }
+    Ok(true)
+}
+
+/// Makes a change, and answers whether the ontology has its concept or role.
+fn make(
+    ontology: &Ontology,
+    individuals: &mut NameBook,
+    rows: &mut Assertions,
+    change: &NamedChange,
+) -> Result<bool, AllocError>
+    requires { length individuals.old ≤ 3900000000 }
+    ensures names { OnOk result (length individuals.new ≤ 2 + length individuals.old) }
+    ensures made { IfOk result (λ named. MatchBool named
+        (IsNamedBy ontology.now change.now.row)
+        (IsNamedBy ontology.now change.now.row → ⊥)) }
+    ensures follows { IfOk result (λ named. IsTrue named → FollowsChange ontology.now change.now individuals.old rows.old individuals.new rows.new) }
+{
+    let Some(place) = place_of(ontology, &change.row) else {
+        return Ok(false);
+    };
+    if change.add {
+        add_row(place, individuals, rows, &change.row)?;
+    } else {
+        remove_row(place, individuals, rows, &change.row);
+    }
+    Ok(true)
+}
+
+/// The place of the row's concept or role in the ontology.
+fn place_of(ontology: &Ontology, row: &NamedRow) -> Option<u32>
+    ensures is { MatchOption result (IsNamedBy ontology.now row.now → ⊥) (λ place. IsPlaceOf ontology.now row.now place) }
+    ensures within { IsTerminology ontology.now }
+{
+    match row {
+        NamedRow::Concept { concept, .. } => ontology.concepts().find(concept.bytes()),
+        NamedRow::Role { role, .. } => ontology.roles().find(role.bytes()),
+    }
+}
+
+/// Adds the row, whose concept or role has this place.
+fn add_row(
+    place: u32,
+    individuals: &mut NameBook,
+    rows: &mut Assertions,
+    row: &NamedRow,
+) -> Result<(), AllocError>
+    requires { length individuals.old ≤ 3900000000 }
+    ensures names { OnOk result (length individuals.new ≤ 2 + length individuals.old) }
+    ensures added { (o : Terminology) → IsPlaceOf o row.now place
+        → OnOk result (FollowsChange o (record { add = true; row = row.now }) individuals.old rows.old individuals.new rows.new) }
+{
+    let row = number(place, individuals, row)?;
+    rows.add(row)?;
+    let _ = individuals.len();
+    Ok(())
+}
+
+/// Removes the row, whose concept or role has this place, where it is there.
+fn remove_row(place: u32, individuals: &NameBook, rows: &mut Assertions, row: &NamedRow)
+    ensures { (o : Terminology) → IsTerminology o → IsPlaceOf o row.now place
+        → FollowsChange o (record { add = false; row = row.now }) individuals.now rows.old individuals.now rows.new }
+{
+    if let Some(row) = known(place, individuals, row) {
+        rows.del(row);
+    }
+}
+
+/// The row by numbers, of which new individuals get the next ones.
+fn number(place: u32, individuals: &mut NameBook, row: &NamedRow) -> Result<Row, AllocError>
+    requires { length individuals.old ≤ 3900000000 }
+    ensures names { OnOk result (individuals.new ≡ with_names individuals.old (names_in row.now)) }
+    ensures few { OnOk result (length individuals.new ≤ 2 + length individuals.old) }
+    ensures numbers { (o : Terminology) → IsPlaceOf o row.now place → IfOk result (NumbersRow o individuals.new row.now) }
+{
+    match row {
+        NamedRow::Concept { individual, .. } => Ok(Row::Concept {
+            concept: place,
+            individual: individuals.intern(individual)?,
+        }),
+        NamedRow::Role { from, to, .. } => Ok(Row::Role {
+            role: place,
+            from: individuals.intern(from)?,
+            to: individuals.intern(to)?,
+        }),
+    }
+}
+
+/// The row by numbers, where the book has its individuals.
+fn known(place: u32, individuals: &NameBook, row: &NamedRow) -> Option<Row>
+    ensures { (o : Terminology) → IsPlaceOf o row.now place → MatchOption result
+        ((n : AnyRow) → NumbersRow o individuals.now row.now n → ⊥)
+        (λ n. NumbersRow o individuals.now row.now n) }
+{
+    match row {
+        NamedRow::Concept { individual, .. } => Some(Row::Concept {
+            concept: place,
+            individual: individuals.find(individual.bytes())?,
+        }),
+        NamedRow::Role { from, to, .. } => Some(Row::Role {
+            role: place,
+            from: individuals.find(from.bytes())?,
+            to: individuals.find(to.bytes())?,
+        }),
+    }
+}
