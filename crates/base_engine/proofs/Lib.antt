@@ -1,0 +1,13 @@
+pub mod RowsOnce
+pub mod RefusedOnce
+pub mod StepsOnce
+pub mod RefusalTable
+pub mod RowsThere
+pub mod Verdicts
+pub mod SmallSteps
+pub mod SmallGenerations
+pub mod Outcomes
+pub mod AlikeSteps
+pub mod StandsForLemmas
+pub mod RunLemmas
+pub mod Generations

@@ -1,0 +1,167 @@
+-- A request is refused for one reason.
+use Rattle.std.proofs.Common.{◌≡◌, ℕ, ◌<◌, ◌==◌, ◌⊎◌, inl, inr, List, length, take, get_or, Some, slice_get, Ok, Err, refl, sym, ◌∙◌, ap, subst, arith, if◌then◌else◌}
+use Rattle.std.proofs.lemmas.List.{get_or-take, length-take-le}
+use Rattle.std.proofs.lemmas.Option.{slice_get_within, get_or_from_slice_get}
+use Rattle.dl_base.specs.Ontology.{Terminology}
+use Rattle.dl_base.specs.Query.{Question}
+use Rattle.dl_base.specs.declared.query.Atom.{Atom}
+use Rattle.dl_base.specs.declared.query.Atom.TheVariants as atom
+use Rattle.dl_base.specs.declared.row.NamedRow.{NamedRow}
+use Rattle.axiom_reader.specs.declared.block.BlockError.{BlockError}
+use Rattle.query_shape.specs.ShapeFault.{IsKnown, IsAtomFault, IsFirstFault}
+use Rattle.query_shape.specs.declared.numbering.ShapeError.{ShapeError}
+use Rattle.query_shape.specs.declared.numbering.ShapeError.TheVariants as unknown
+use Rattle.reply_text.specs.declared.reply.Refusal.{Refusal}
+use Rattle.reply_text.specs.declared.reply.Refusal.TheVariants as refusal
+use Rattle.script_reader.specs.declared.command.Command.{Command}
+use Rattle.script_reader.specs.declared.command.Command.TheVariants as command
+use Rattle.script_reader.specs.declared.request.Request.{Request}
+use Rattle.script_reader.specs.declared.request.Request.TheVariants as request
+use Rattle.base_engine.specs.State.{MachineState}
+use Rattle.base_engine.specs.Refusals.{AppendsChange, IsRefusedFor, LacksNameOf, LacksNameIn, RefusalHolds, rank}
+use Rattle.base_engine.proofs.RowsOnce.{ontology_once}
+use Rattle.base_store.specs.History.{ontology_of}
+
+-- ---- names that the ontology lacks
+
+lacks_once : (o : Terminology) (r : NamedRow) (e f : Refusal) → LacksNameOf o r e → LacksNameOf o r f → e ≡ f
+lacks_once o r e f (LacksNameOf.concept a) (LacksNameOf.concept b) = refl
+lacks_once o r e f (LacksNameOf.role a) (LacksNameOf.role b) = refl
+
+-- the error names what the ontology lacks
+abbrev pub Tells : ShapeError → Type 0
+Tells (unknown.UnknownConcept name) = Unit {0}
+Tells (unknown.UnknownRole name) = Unit {0}
+Tells unknown.NoMemory = ⊥
+
+pub not_known : (o : Terminology) (a : Atom) (e : ShapeError) → Tells e → IsAtomFault o a e → IsKnown o a → ⊥
+not_known o (atom.Concept name t) (unknown.UnknownConcept told) tells fault known = fault.1 known
+not_known o (atom.Concept name t) (unknown.UnknownRole told) tells fault known = fault
+not_known o (atom.Role name t u) (unknown.UnknownConcept told) tells fault known = fault
+not_known o (atom.Role name t u) (unknown.UnknownRole told) tells fault known = fault.1 known
+not_known o a unknown.NoMemory tells fault known = tells
+
+fault_same : (o : Terminology) (a : Atom) (e f : ShapeError) → Tells e → Tells f → IsAtomFault o a e → IsAtomFault o a f → e ≡ f
+fault_same o (atom.Concept name t) (unknown.UnknownConcept x) (unknown.UnknownConcept y) s t' a b = ap unknown.UnknownConcept (a.0 ∙ sym b.0)
+fault_same o (atom.Concept name t) (unknown.UnknownConcept x) (unknown.UnknownRole y) s t' a b = absurd b
+fault_same o (atom.Concept name t) (unknown.UnknownRole x) f s t' a b = absurd a
+fault_same o (atom.Role name t u) (unknown.UnknownConcept x) f s t' a b = absurd a
+fault_same o (atom.Role name t u) (unknown.UnknownRole x) (unknown.UnknownConcept y) s t' a b = absurd b
+fault_same o (atom.Role name t u) (unknown.UnknownRole x) (unknown.UnknownRole y) s t' a b = ap unknown.UnknownRole (a.0 ∙ sym b.0)
+fault_same o a unknown.NoMemory f s t' x y = absurd s
+fault_same o a e unknown.NoMemory s t' x y = absurd t'
+
+not_before : (o : Terminology) (atoms : List Atom) (e f : ShapeError) → Tells e → (a : IsFirstFault o atoms e) (b : IsFirstFault o atoms f) → a.place < b.place → ⊥
+not_before o atoms e f tells a b lt =
+    let within : b.place < length atoms = slice_get_within atoms b.place b.atom b.there in
+    let long : length (take b.place atoms) ≡ b.place = length-take-le b.place atoms (omega arith) in
+    let same : get_or (take b.place atoms) a.place a.atom ≡ a.atom = get_or-take b.place atoms a.place a.atom lt ∙ get_or_from_slice_get atoms a.place a.atom a.atom a.there in
+    not_known o a.atom e tells a.fault (subst (IsKnown o) same (b.before a.place a.atom (omega (arith, long, lt))))
+
+fault_once : (o : Terminology) (atoms : List Atom) (e f : ShapeError) → Tells e → Tells f → IsFirstFault o atoms e → IsFirstFault o atoms f → e ≡ f
+fault_once o atoms e f s t a b =
+    let left = not_before o atoms e f s a b in
+    let right = not_before o atoms f e t b a in
+    let place : a.place ≡ b.place = omega (arith, left, right) in
+    let there : slice_get atoms b.place ≡ Some a.atom = subst (λ (n : ℕ). slice_get atoms n ≡ Some a.atom) place a.there in
+    let same : a.atom ≡ b.atom = let g : Some a.atom ≡ Some b.atom = sym there ∙ b.there in cc in
+    fault_same o b.atom e f s t (subst (λ (x : Atom). IsAtomFault o x e) same a.fault) b.fault
+
+lacks_in_once : (o : Terminology) (q : Question) (e f : Refusal) → LacksNameIn o q e → LacksNameIn o q f → e ≡ f
+lacks_in_once o q e f (LacksNameIn.concept {name = x} a) (LacksNameIn.concept {name = y} b) =
+    let same : unknown.UnknownConcept x ≡ unknown.UnknownConcept y = fault_once o q.atoms _ _ tt tt a b in cc
+lacks_in_once o q e f (LacksNameIn.concept {name = x} a) (LacksNameIn.role {name = y} b) =
+    let same : unknown.UnknownConcept x ≡ unknown.UnknownRole y = fault_once o q.atoms _ _ tt tt a b in absurd cc
+lacks_in_once o q e f (LacksNameIn.role {name = x} a) (LacksNameIn.concept {name = y} b) =
+    let same : unknown.UnknownRole x ≡ unknown.UnknownConcept y = fault_once o q.atoms _ _ tt tt a b in absurd cc
+lacks_in_once o q e f (LacksNameIn.role {name = x} a) (LacksNameIn.role {name = y} b) =
+    let same : unknown.UnknownRole x ≡ unknown.UnknownRole y = fault_once o q.atoms _ _ tt tt a b in cc
+
+-- ---- the refusal of a rank
+
+-- where it carries nothing
+abbrev of_rank : ℕ → Refusal
+of_rank n = if n == 4 then refusal.Unbuilt else if n == 5 then refusal.NoOntology else if n == 6 then refusal.OntologyThere else if n == 8 then refusal.NotOpen
+    else if n == 9 then refusal.AlreadyOpen else if n == 11 then refusal.Pending else if n == 12 then refusal.Crowded else refusal.LogFull
+
+-- a refusal that carries a name that the ontology lacks
+data Unknown (s : MachineState) : Command → Refusal → Type 0 where
+  in_row : {c : Command} {e : Refusal} (o : Terminology) (k : ℕ) (r : NamedRow) → ontology_of s.history ≡ Some o → AppendsChange c k r → LacksNameOf o r e → Unknown s c e
+  in_query : {q : Question} {e : Refusal} (o : Terminology) → ontology_of s.history ≡ Some o → LacksNameIn o q e → Unknown s (command.Ask q) e
+
+pub rank_row : (o : Terminology) (r : NamedRow) (e : Refusal) → LacksNameOf o r e → rank e ≡ 10
+rank_row o r e (LacksNameOf.concept a) = refl
+rank_row o r e (LacksNameOf.role a) = refl
+
+pub rank_query : (o : Terminology) (q : Question) (e : Refusal) → LacksNameIn o q e → rank e ≡ 10
+rank_query o q e (LacksNameIn.concept a) = refl
+rank_query o q e (LacksNameIn.role a) = refl
+
+rank_unknown : (s : MachineState) (c : Command) (e : Refusal) → Unknown s c e → rank e ≡ 10
+rank_unknown s c e (Unknown.in_row o k r has appends lacks) = rank_row o r e lacks
+rank_unknown s c e (Unknown.in_query {q = q} o has lacks) = rank_query o q e lacks
+
+same_row : (c : Command) (k l : ℕ) (r x : NamedRow) → AppendsChange c k r → AppendsChange c l x → r ≡ x
+same_row c k l r x AppendsChange.add AppendsChange.add = refl
+same_row c k l r x AppendsChange.del AppendsChange.del = refl
+
+no_row : (q : Question) (k : ℕ) (r : NamedRow) → AppendsChange (command.Ask q) k r → ⊥
+no_row q k r a = elim a [ ]
+
+unknown_once : (s : MachineState) (c : Command) (e f : Refusal) → Unknown s c e → Unknown s c f → e ≡ f
+unknown_once s c e f (Unknown.in_row o k r has appends lacks) (Unknown.in_row p l x its brings misses) =
+    lacks_once p x e f (subst (λ (y : NamedRow). LacksNameOf p y e) (same_row c k l r x appends brings) (subst (λ (z : Terminology). LacksNameOf z r e) (ontology_once s.history o p has its) lacks)) misses
+unknown_once s c e f (Unknown.in_row o k r has appends lacks) (Unknown.in_query {q = q} p its misses) = absurd (no_row q k r appends)
+unknown_once s c e f (Unknown.in_query {q = q} p its misses) (Unknown.in_row o k r has appends lacks) = absurd (no_row q k r appends)
+unknown_once s c e f (Unknown.in_query {q = q} o has lacks) (Unknown.in_query p its misses) =
+    lacks_in_once p q e f (subst (λ (z : Terminology). LacksNameIn z q e) (ontology_once s.history o p has its) lacks) misses
+
+-- ---- one refusal of each rank
+
+plain_holds : (s : MachineState) (c : Command) (e : Refusal) → RefusalHolds s (request.Plain c) e → (e ≡ of_rank (rank e)) ⊎ Unknown s c e
+plain_holds s c e RefusalHolds.unbuilt = inl refl
+plain_holds s c e (RefusalHolds.no_ontology needs none) = inl refl
+plain_holds s c e (RefusalHolds.not_open k needs closed) = inl refl
+plain_holds s c e (RefusalHolds.already_open changes are) = inl refl
+plain_holds s c e (RefusalHolds.unknown_name o k r has appends lacks) = inr (Unknown.in_row o k r has appends lacks)
+plain_holds s c e (RefusalHolds.unknown_in_query o has lacks) = inr (Unknown.in_query o has lacks)
+plain_holds s c e (RefusalHolds.pending k r changes appends are many) = inl refl
+plain_holds s c e (RefusalHolds.crowded changes are many) = inl refl
+plain_holds s c e (RefusalHolds.transaction_full changes are full) = inl refl
+
+not_both : (s : MachineState) (c : Command) (e f : Refusal) → rank e ≡ rank f → e ≡ of_rank (rank e) → Unknown s c f → ⊥
+not_both s c e f same carries unknown =
+    let ten : rank e ≡ 10 = same ∙ rank_unknown s c f unknown in
+    let is : e ≡ of_rank 10 = subst (λ (n : ℕ). e ≡ of_rank n) ten carries in
+    let other : rank e ≡ 13 = ap rank is in
+    omega (arith, ten, other)
+
+plain_once : (s : MachineState) (c : Command) (e f : Refusal) → rank e ≡ rank f → (e ≡ of_rank (rank e)) ⊎ Unknown s c e → (f ≡ of_rank (rank f)) ⊎ Unknown s c f → e ≡ f
+plain_once s c e f same (inl a) (inl b) = a ∙ ap of_rank same ∙ sym b
+plain_once s c e f same (inl a) (inr b) = absurd (not_both s c e f same a b)
+plain_once s c e f same (inr a) (inl b) = absurd (not_both s c f e (sym same) b a)
+plain_once s c e f same (inr a) (inr b) = unknown_once s c e f a b
+
+bad_holds : (s : MachineState) (x e : Refusal) → RefusalHolds s (request.Bad x) e → e ≡ x
+bad_holds s x e RefusalHolds.bad = refl
+
+taken_holds : (s : MachineState) (o : Terminology) (e : Refusal) → RefusalHolds s (request.Block (Ok o)) e → e ≡ of_rank (rank e)
+taken_holds s o e (RefusalHolds.ontology_there p has) = refl
+taken_holds s o e (RefusalHolds.ontology_full full) = refl
+
+-- the refusal of a block that offends
+abbrev of_block : BlockError → ℕ → Refusal
+of_block x n = if n == 7 then refusal.Block x else refusal.OntologyThere
+
+block_holds : (s : MachineState) (x : BlockError) (e : Refusal) → RefusalHolds s (request.Block (Err x)) e → e ≡ of_block x (rank e)
+block_holds s x e (RefusalHolds.ontology_there p has) = refl
+block_holds s x e RefusalHolds.block = refl
+
+pub holds_once : (s : MachineState) (q : Request) (e f : Refusal) → RefusalHolds s q e → RefusalHolds s q f → rank e ≡ rank f → e ≡ f
+holds_once s (request.Plain c) e f a b same = plain_once s c e f same (plain_holds s c e a) (plain_holds s c f b)
+holds_once s (request.Block (Ok o)) e f a b same = taken_holds s o e a ∙ ap of_rank same ∙ sym (taken_holds s o f b)
+holds_once s (request.Block (Err x)) e f a b same = block_holds s x e a ∙ ap (of_block x) same ∙ sym (block_holds s x f b)
+holds_once s (request.Bad x) e f a b same = bad_holds s x e a ∙ sym (bad_holds s x f b)
+
+pub refused_once : (s : MachineState) (q : Request) (e f : Refusal) → IsRefusedFor s q e → IsRefusedFor s q f → e ≡ f
+refused_once s q e f a b = holds_once s q e f a.holds b.holds (let l = a.first f b.holds in let m = b.first e a.holds in omega (arith, l, m))

@@ -1,0 +1,12 @@
+pub mod State
+pub mod Refusals
+pub mod Requests
+pub mod Steps
+pub mod StepLaws
+pub mod RefusalLaws
+pub mod StepExamples
+pub mod GenerationExamples
+pub mod Base
+pub mod Calls
+pub mod Alike
+pub mod RunLaws
