@@ -1,28 +1,21 @@
 -- Laws of the reply to a document.
-use Rattle.std.proofs.Common.{◌≡◌, ℕ, List, All, Contains, Some, None, Result, Ok, Err, IfOk, refl, sym, subst}
-use Rattle.std.specs.List.{AllByRecursion}
+use Rattle.std.proofs.Common.{◌≡◌, ℕ, List, All, Some, None, Result, Ok, Err, IfOk, refl, sym, subst}
 use Rattle.std.proofs.lemmas.List.Elements.{All-contains}
 use Rattle.dl_base.specs.Ontology.{Terminology}
 use Rattle.dl_base.specs.Query.{Question}
 use Rattle.dl_base.specs.Answers.{AreAnswers}
 use Rattle.dl_base.specs.Clashes.{IsFirstClash}
 use Rattle.dl_base.specs.Rows.{AreRowsOf}
-use Rattle.dl_base.specs.declared.concept.Basic.TheVariants as basic
-use Rattle.dl_base.specs.declared.concept.Head.{Head}
-use Rattle.dl_base.specs.declared.concept.Head.TheVariants as head
-use Rattle.dl_base.specs.declared.concept.Inclusion.{Inclusion}
-use Rattle.dl_base.specs.declared.concept.Role.{Role}
 use Rattle.dl_base.specs.declared.row.NamedRow.{NamedRow}
 use Rattle.dl_base.specs.declared.query.Atom.{Atom}
 use Rattle.dl_base.specs.declared.query.Atom.TheVariants as atom
-use Rattle.dl_base.proofs.RisingLemmas.{all_contains}
 use Rattle.dl_base.proofs.RowLemmas.{row_total, row_same}
 use Rattle.dl_base.specs.Rows.{row_cmp}
 use Rattle.query_shape.specs.ShapeFault.{IsKnown, IsAtomFault, IsShapeFault}
 use Rattle.query_shape.specs.declared.numbering.ShapeError.{ShapeError}
 use Rattle.query_shape.specs.declared.numbering.ShapeError.TheVariants as errors
 use Rattle.clash_report.specs.Report.{IsReported}
-use Rattle.completion.specs.Named.{StandFor}
+use Rattle.dl_base.specs.Numbers.{StandFor}
 use Rattle.dl_base.specs.Replies.{Answers, Inconsistent}
 use Rattle.dl_base.specs.declared.clash.Clash.{Clash}
 use Rattle.obda_run.specs.Document.{Says}

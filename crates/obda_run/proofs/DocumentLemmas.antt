@@ -3,12 +3,12 @@ use Rattle.std.proofs.Common.{◌≡◌, ℕ, ◌+◌, ◌⊎◌, inl, inr, List
 use Rattle.dl_base.specs.Ontology.{Terminology}
 use Rattle.dl_base.specs.Query.{Question}
 use Rattle.dl_base.specs.declared.row.NamedRow.{NamedRow}
-use Rattle.obda_run.specs.Lines.{AreLines}
+use Rattle.script_reader.specs.Lines.{AreLines}
 use Rattle.script_reader.specs.DocLines.{IsDocLine}
 use Rattle.obda_run.specs.Document.{Context, nothing_said, with_line, Offends, Accepts, Accepted, FirstOffence, code_of, Refused, Asks, HasNoQuery, HasOffence, Says, Means, IsDocument}
 use Rattle.script_reader.specs.declared.doc_line.DocLine.{DocLine}
 use Rattle.obda_run.specs.declared.reason.Reason.{Reason}
-use Rattle.obda_run.proofs.LineLemmas.{lines_are}
+use Rattle.script_reader.proofs.LineLemmas.{lines_are}
 use Rattle.script_reader.proofs.BlankRules.{same_head, same_tail}
 use Rattle.script_reader.proofs.LineRules.{line_once}
 use Rattle.obda_run.proofs.ReasonLemmas.{reason_once}

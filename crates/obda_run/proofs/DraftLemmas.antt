@@ -10,7 +10,7 @@ use Rattle.obda_run.specs.Drafting.{KeepsOntology, KeepsPartial, NextText, IsAsk
 use Rattle.obda_run.specs.declared.reason.Reason.{Reason}
 use Rattle.obda_run.specs.declared.reason.Reason.TheVariants as reason
 use Rattle.obda_run.specs.declared.document.Partial.{Partial}
-use Rattle.obda_run.proofs.ReasonLemmas.{NoneBelow, HoldsFor, holds_for, offends_by, offends_long, offends_syntax}
+use Rattle.obda_run.proofs.ReasonLemmas.{NoneBelow, HoldsFor, holds_for, offends_by, offends_long}
 
 pub accepted_more : (lines : List (List ℕ)) (before after : Context) (text : List ℕ) (d : DocLine) → Accepted before lines after → Accepts after text d
     → Accepted before (lines ++ text ∷ []) (with_line after d)

@@ -3,61 +3,83 @@ use Rattle.std.proofs.Common.{◌≡◌, ◌≢◌, ◌==◌, true, ◌≤◌, �
 use Rattle.std.proofs.lemmas.List.{length-take, length-drop, length-map, append-nil, map-append, take_all, take-append-drop}
 use Rattle.std.proofs.lemmas.Bool.{eqb-true}
 use Rattle.host_io.specs.Source.{Takes, AtEnd}
-use Rattle.obda_run.specs.Lines.{AreLines, line_of, last_line}
-use Rattle.obda_run.specs.Feeding.{kept, StandsFor, EndsLine, GoesOn}
+use Rattle.script_reader.specs.Lines.{AreLines, line_of, last_line}
+use Rattle.script_reader.specs.Feeding.{LineSoFar, IsBehind, Tells, TellsLast, begun, kept, EndsWithin, GoesOnOver}
+use Rattle.script_reader.specs.declared.lines.Fed.{Fed}
+use Rattle.script_reader.specs.declared.lines.Fed.TheVariants as fed
 use Rattle.obda_run.specs.Drafting.{KeepsDraft, Finishes}
 use Rattle.obda_run.specs.Run.{Reads, GaveEnd, EndsEarly, Ends, Replies, HasStopped, Stops, IsReading, IsRead}
 use Rattle.obda_run.specs.declared.document.Document.{Document}
 use Rattle.obda_run.specs.declared.document.Draft.{Draft}
 use Rattle.obda_run.specs.declared.status.Status.{Status}
 use Rattle.obda_run.specs.declared.status.Status.TheVariants as status
-use Rattle.obda_run.proofs.LineLemmas.{ended_from, open_from, lines_of, ended-append, open-append, ended_none, open_none, ended_one, open_one, is_cut, cut_ended, cut_open, are_lines, length-ended, kept_more, stands}
+use Rattle.script_reader.proofs.LineLemmas.{ended_from, open_from, lines_of, ended-append, ended_none, ended_one, cut_ended, cut_open, are_lines, length-ended, kept_more}
+use Rattle.script_reader.proofs.FeedingLemmas.{begun_is, line_told, too_long_told}
 
 -- ---- the bytes so far
 
-ended_so_far : (read line : List ℕ) (draft : Draft) (r : IsReading read line draft) → ended_from [] read ≡ r.pieces
-ended_so_far read line draft r = ap (ended_from []) r.cut.joined ∙ cut_ended r.pieces r.rest r.cut.none_inside r.cut.none_behind
+ended_so_far : (read : List ℕ) (line : LineSoFar) (b : IsBehind read line) → ended_from [] read ≡ b.pieces
+ended_so_far read line b = ap (ended_from []) b.cut.joined ∙ cut_ended b.pieces b.rest b.cut.none_inside b.cut.none_behind
 
-open_so_far : (read line : List ℕ) (draft : Draft) (r : IsReading read line draft) → open_from [] read ≡ r.rest
-open_so_far read line draft r = ap (open_from []) r.cut.joined ∙ cut_open r.pieces r.rest r.cut.none_inside r.cut.none_behind
+line_so_far : (read : List ℕ) (line : LineSoFar) → IsBehind read line → begun line ≡ kept (open_from [] read)
+line_so_far read line b = begun_is read line b ∙ ap kept (sym (ap (open_from []) b.cut.joined ∙ cut_open b.pieces b.rest b.cut.none_inside b.cut.none_behind))
 
-line_so_far : (read line : List ℕ) (draft : Draft) → IsReading read line draft → line ≡ kept (open_from [] read)
-line_so_far read line draft r = r.line_is ∙ ap kept (sym (open_so_far read line draft r))
+keeps_so_far : (read : List ℕ) (line : LineSoFar) (draft : Draft) → IsReading read line draft → KeepsDraft (map line_of (ended_from [] read)) draft
+keeps_so_far read line draft r = subst (λ (ps : List (List ℕ)). KeepsDraft (map line_of ps) draft) (sym (ended_so_far read line r.held)) r.keeps
 
-pub keeps_so_far : (read line : List ℕ) (draft : Draft) → IsReading read line draft → KeepsDraft (map line_of (ended_from [] read)) draft
-keeps_so_far read line draft r = subst (λ (ps : List (List ℕ)). KeepsDraft (map line_of ps) draft) (sym (ended_so_far read line draft r)) r.keeps
+is_reading : (read : List ℕ) (line : LineSoFar) (draft : Draft) → IsBehind read line → KeepsDraft (map line_of (ended_from [] read)) draft → IsReading read line draft
+is_reading read line draft held keeps = record { held = held; keeps = subst (λ (ps : List (List ℕ)). KeepsDraft (map line_of ps) draft) (ended_so_far read line held) keeps }
 
-is_reading : (read line : List ℕ) (draft : Draft) → line ≡ kept (open_from [] read) → KeepsDraft (map line_of (ended_from [] read)) draft → IsReading read line draft
-is_reading read line draft is keeps = record { pieces = ended_from [] read; rest = open_from [] read; cut = is_cut read; line_is = is; keeps = keeps }
+pub reading_nothing : (line : LineSoFar) (draft : Draft) → IsBehind [] line → KeepsDraft [] draft → IsReading [] line draft
+reading_nothing line draft held keeps = is_reading [] line draft held keeps
 
-pub few_lines : (read : List ℕ) → length (map line_of (ended_from [] read)) ≤ length read
+few_lines : (read : List ℕ) → length (map line_of (ended_from [] read)) ≤ length read
 few_lines read = omega (arith, length-map (ended_from [] read) line_of, length-ended [] read)
 
--- bytes without a line end
-pub reading_goes_on : (read old new input : List ℕ) (count : ℕ) (draft : Draft) → IsReading read old draft → GoesOn old input count new → IsReading (read ++ take count input) new draft
-reading_goes_on read old new input count draft r g =
-    let all : take count input ≡ input = take_all count input (omega (arith, g.all)) in
-    let behind : open_from [] (read ++ input) ≡ open_from [] read ++ input = open-append [] read input ∙ open_none (open_from [] read) input g.no_end in
-    let ended : ended_from [] (read ++ input) ≡ ended_from [] read = ended-append [] read input ∙ ap (λ (l : List (List ℕ)). ended_from [] read ++ l) (ended_none (open_from [] read) input g.no_end) ∙ append-nil (ended_from [] read) in
-    let line : new ≡ kept (open_from [] (read ++ input)) = g.now ∙ ap (λ (l : List ℕ). kept (l ++ input)) (line_so_far read old draft r) ∙ kept_more (open_from [] read) input ∙ ap kept (sym behind) in
-    let keeps : KeepsDraft (map line_of (ended_from [] (read ++ input))) draft = subst (λ (ps : List (List ℕ)). KeepsDraft (map line_of ps) draft) (sym ended) (keeps_so_far read old draft r) in
-    subst (λ (l : List ℕ). IsReading (read ++ l) new draft) (sym all) (is_reading (read ++ input) new draft line keeps)
+module _ (read : List ℕ) (old new : LineSoFar) (input : List ℕ) (count : ℕ) (draft : Draft) (r : IsReading read old draft) (held : IsBehind (read ++ take count input) new) where
+  -- bytes without a line end
+  reading_goes_on : GoesOnOver old input count new → IsReading (read ++ take count input) new draft
+  reading_goes_on g =
+      let all : take count input ≡ input = take_all count input (omega (arith, g.all)) in
+      let ended : ended_from [] (read ++ take count input) ≡ ended_from [] read =
+      ap (λ (l : List ℕ). ended_from [] (read ++ l)) all ∙ ended-append [] read input
+      ∙ ap (λ (l : List (List ℕ)). ended_from [] read ++ l) (ended_none (open_from [] read) input g.no_end) ∙ append-nil (ended_from [] read) in
+      is_reading (read ++ take count input) new draft held (subst (λ (ps : List (List ℕ)). KeepsDraft (map line_of ps) draft) (sym ended) (keeps_so_far read old draft r))
 
--- the line that ends
-pub line_stands : (read old new input : List ℕ) (count : ℕ) (draft : Draft) → IsReading read old draft → (e : EndsLine old input count new) → StandsFor new (line_of (open_from [] read ++ e.text))
-line_stands read old new input count draft r e =
-    let is : new ≡ kept (open_from [] read ++ e.text) = e.now ∙ ap (λ (l : List ℕ). kept (l ++ e.text)) (line_so_far read old draft r) ∙ kept_more (open_from [] read) e.text in
-    subst (λ (b : List ℕ). StandsFor b (line_of (open_from [] read ++ e.text))) (sym is) (stands (open_from [] read ++ e.text))
+  module _ (e : EndsWithin old input count new) where
+    -- the piece that ends
+    piece_ended : new.bytes ≡ kept (open_from [] read ++ e.text)
+    piece_ended = ap (λ (l : LineSoFar). l.bytes) e.now ∙ ap (λ (l : List ℕ). kept (l ++ e.text)) (line_so_far read old r.held) ∙ kept_more (open_from [] read) e.text
 
-pub reading_ended : (read old new line input : List ℕ) (count : ℕ) (next : Draft) (e : EndsLine old input count new) → line ≡ [] → KeepsDraft (map line_of (ended_from [] read) ++ line_of (open_from [] read ++ e.text) ∷ []) next → IsReading (read ++ take count input) line next
-reading_ended read old new line input count next e is keeps =
-    let piece = e.text ++ 10 ∷ [] in
-    let behind : open_from [] (read ++ piece) ≡ [] = open-append [] read piece ∙ open_one (open_from [] read) e.text in
-    let ended : map line_of (ended_from [] (read ++ piece)) ≡ map line_of (ended_from [] read) ++ line_of (open_from [] read ++ e.text) ∷ [] =
-    ap (map line_of) (ended-append [] read piece ∙ ap (λ (l : List (List ℕ)). ended_from [] read ++ l) (ended_one (open_from [] read) e.text e.no_end))
-    ∙ map-append line_of (ended_from [] read) ((open_from [] read ++ e.text) ∷ []) in
-    subst (λ (l : List ℕ). IsReading (read ++ l) line next) (sym e.taken)
-    (is_reading (read ++ piece) line next (is ∙ ap kept (sym behind)) (subst (λ (ls : List (List ℕ)). KeepsDraft ls next) (sym ended) keeps))
+    reading_ended : (next : Draft) → KeepsDraft (map line_of (ended_from [] read) ++ line_of (open_from [] read ++ e.text) ∷ []) next → IsReading (read ++ take count input) new next
+    reading_ended next keeps =
+        let ended : map line_of (ended_from [] (read ++ take count input)) ≡ map line_of (ended_from [] read) ++ line_of (open_from [] read ++ e.text) ∷ [] =
+        ap (λ (l : List ℕ). map line_of (ended_from [] (read ++ l))) e.taken
+        ∙ ap (map line_of) (ended-append [] read (e.text ++ 10 ∷ []) ∙ ap (λ (l : List (List ℕ)). ended_from [] read ++ l) (ended_one (open_from [] read) e.text e.no_end))
+        ∙ map-append line_of (ended_from [] read) ((open_from [] read ++ e.text) ∷ []) in
+        is_reading (read ++ take count input) new next held (subst (λ (ls : List (List ℕ)). KeepsDraft ls next) (sym ended) keeps)
+
+  -- ---- what is told of a part
+
+  module _ (f : Fed) (tells : Tells old input count f new) where
+    pub more_told : f ≡ fed.More → IsReading (read ++ take count input) new draft
+    more_told is = reading_goes_on (subst (λ (g : Fed). Tells old input count g new) is tells)
+
+    pub line_taken : f ≡ fed.Line → length read < 2 ^ 63 → (text : List ℕ) → text ≡ line_of new.bytes → (next : Draft)
+        → ((lines : List (List ℕ)) → length lines < 2 ^ 63 → length text ≤ 4096 → KeepsDraft lines draft → KeepsDraft (lines ++ text ∷ []) next) → IsReading (read ++ take count input) new next
+    line_taken is few text same next takes =
+        let told = subst (λ (g : Fed). Tells old input count g new) is tells in
+        let line = line_told new.bytes (open_from [] read ++ told.0.text) (piece_ended told.0) told.1 in
+        reading_ended told.0 next (subst (λ (l : List ℕ). KeepsDraft (map line_of (ended_from [] read) ++ l ∷ []) next) (same ∙ line.1)
+        (takes (map line_of (ended_from [] read)) (omega (arith, few, few_lines read)) (subst (λ (l : List ℕ). length l ≤ 4096) (sym same) line.0) (keeps_so_far read old draft r)))
+
+    pub long_line_taken : f ≡ fed.TooLong → length read < 2 ^ 63 → (next : Draft)
+        → ((lines : List (List ℕ)) (text : List ℕ) → length lines < 2 ^ 63 → 4096 < length text → KeepsDraft lines draft → KeepsDraft (lines ++ text ∷ []) next) → IsReading (read ++ take count input) new next
+    long_line_taken is few next takes =
+        let told = subst (λ (g : Fed). Tells old input count g new) is tells in
+        let piece = open_from [] read ++ told.0.text in
+        reading_ended told.0 next
+        (takes (map line_of (ended_from [] read)) (line_of piece) (omega (arith, few, few_lines read)) (too_long_told new.bytes piece (piece_ended told.0) told.1) (keeps_so_far read old draft r))
 
 -- ---- the end of the input
 
@@ -81,40 +103,67 @@ last_some : (bytes : List ℕ) → bytes ≢ [] → last_line bytes ≡ bytes �
 last_some [] other = absurd (other refl)
 last_some (b ∷ bytes) other = refl
 
-pub finished_whole : (read line : List ℕ) (draft : Draft) (result : Result Document Status) → length read ≤ 67108864 → IsReading read line draft → line ≡ []
+finished_whole : (read : List ℕ) (line : LineSoFar) (draft : Draft) (result : Result Document Status) → length read ≤ 67108864 → IsReading read line draft → begun line ≡ []
     → ((lines : List (List ℕ)) → length lines < 2 ^ 63 → KeepsDraft lines draft → Finishes lines result) → IsRead result read
 finished_whole read line draft result few r is finishes =
-    let nothing : open_from [] read ≡ [] = kept_nothing (open_from [] read) (sym (line_so_far read line draft r) ∙ is) in
+    let nothing : open_from [] read ≡ [] = kept_nothing (open_from [] read) (sym (line_so_far read line r.held) ∙ is) in
     let lines : lines_of read ≡ map line_of (ended_from [] read) = ap (λ (l : List ℕ). map line_of (ended_from [] read ++ last_line l)) nothing ∙ ap (map line_of) (append-nil (ended_from [] read)) in
     finishes_read read (lines_of read) result (are_lines read)
     (finishes (lines_of read) (omega (arith, few, few_lines read, ap length lines))
     (subst (λ (ls : List (List ℕ)). KeepsDraft ls draft) (sym lines) (keeps_so_far read line draft r)))
 
-pub last_stands : (read line : List ℕ) (draft : Draft) → IsReading read line draft → StandsFor line (line_of (open_from [] read))
-last_stands read line draft r = subst (λ (b : List ℕ). StandsFor b (line_of (open_from [] read))) (sym (line_so_far read line draft r)) (stands (open_from [] read))
-
-pub finished_last : (read line : List ℕ) (draft next : Draft) (result : Result Document Status) → length read ≤ 67108864 → IsReading read line draft → line ≢ []
+finished_last : (read : List ℕ) (line : LineSoFar) (draft next : Draft) (result : Result Document Status) → length read ≤ 67108864 → IsReading read line draft → 0 < length (begun line)
     → KeepsDraft (map line_of (ended_from [] read) ++ line_of (open_from [] read) ∷ []) next
     → ((lines : List (List ℕ)) → length lines < 2 ^ 63 → KeepsDraft lines next → Finishes lines result) → IsRead result read
 finished_last read line draft next result few r other keeps finishes =
-    let some : open_from [] read ≢ [] = λ is. other (line_so_far read line draft r ∙ ap kept is) in
+    let some : open_from [] read ≢ [] = λ is. omega (arith, other, ap length (line_so_far read line r.held ∙ ap kept is)) in
     let lines : lines_of read ≡ map line_of (ended_from [] read) ++ line_of (open_from [] read) ∷ [] =
     ap (λ (l : List (List ℕ)). map line_of (ended_from [] read ++ l)) (last_some (open_from [] read) some) ∙ map-append line_of (ended_from [] read) (open_from [] read ∷ []) in
     finishes_read read (lines_of read) result (are_lines read)
     (finishes (lines_of read) (omega (arith, few, few_lines read, ap length lines, length-append (map line_of (ended_from [] read)) (line_of (open_from [] read) ∷ [])))
     (subst (λ (ls : List (List ℕ)). KeepsDraft ls next) (sym lines) keeps))
 
+-- ---- what is told at the end
+
+module _ (read : List ℕ) (old new : LineSoFar) (draft : Draft) (result : Result Document Status) (few : length read ≤ 67108864) (r : IsReading read old draft) (f : Fed) (last : TellsLast old f new) where
+  pub finished_more : f ≡ fed.More → ((lines : List (List ℕ)) → length lines < 2 ^ 63 → KeepsDraft lines draft → Finishes lines result) → IsRead result read
+  finished_more is whole = finished_whole read old draft result few r (subst (λ (g : Fed). TellsLast old g new) is last).0 whole
+
+  -- the piece that the end of the input ends
+  last_piece : new ≡ record { bytes = begun old; ended = true } → new.bytes ≡ kept (open_from [] read)
+  last_piece is = ap (λ (l : LineSoFar). l.bytes) is ∙ line_so_far read old r.held
+
+  pub finished_line : f ≡ fed.Line → (text : List ℕ) → text ≡ line_of new.bytes → (next : Draft)
+      → ((lines : List (List ℕ)) → length lines < 2 ^ 63 → length text ≤ 4096 → KeepsDraft lines draft → KeepsDraft (lines ++ text ∷ []) next)
+      → ((lines : List (List ℕ)) → length lines < 2 ^ 63 → KeepsDraft lines next → Finishes lines result) → IsRead result read
+  finished_line is text same next takes whole =
+      let told = subst (λ (g : Fed). TellsLast old g new) is last in
+      let line = line_told new.bytes (open_from [] read) (last_piece told.1) told.2 in
+      finished_last read old draft next result few r told.0
+      (subst (λ (l : List ℕ). KeepsDraft (map line_of (ended_from [] read) ++ l ∷ []) next) (same ∙ line.1)
+      (takes (map line_of (ended_from [] read)) (omega (arith, few, few_lines read)) (subst (λ (l : List ℕ). length l ≤ 4096) (sym same) line.0) (keeps_so_far read old draft r)))
+      whole
+
+  pub finished_long_line : f ≡ fed.TooLong → (next : Draft)
+      → ((lines : List (List ℕ)) (text : List ℕ) → length lines < 2 ^ 63 → 4096 < length text → KeepsDraft lines draft → KeepsDraft (lines ++ text ∷ []) next)
+      → ((lines : List (List ℕ)) → length lines < 2 ^ 63 → KeepsDraft lines next → Finishes lines result) → IsRead result read
+  finished_long_line is next takes whole =
+      let told = subst (λ (g : Fed). TellsLast old g new) is last in
+      finished_last read old draft next result few r told.0
+      (takes (map line_of (ended_from [] read)) (line_of (open_from [] read)) (omega (arith, few, few_lines read)) (too_long_told new.bytes (open_from [] read) (last_piece told.1) told.2) (keeps_so_far read old draft r))
+      whole
+
 -- ---- the source
 
 -- so many bytes of the input were taken
-pub record Taken (input : List ℕ) (taken : ℕ) (left : Option (List ℕ)) (line : List ℕ) (draft : Draft) : Type 0 where
+pub record Taken (input : List ℕ) (taken : ℕ) (left : Option (List ℕ)) (line : LineSoFar) (draft : Draft) : Type 0 where
   pub read : List ℕ
   pub rest : List ℕ
   pub reads : Reads input left read rest
   pub count : length read ≡ taken
   pub reading : IsReading read line draft
 
-module _ (input : List ℕ) (taken : ℕ) (left : Option (List ℕ)) (line : List ℕ) (draft : Draft) (t : Taken input taken left line draft) where
+module _ (input : List ℕ) (taken : ℕ) (left : Option (List ℕ)) (line : LineSoFar) (draft : Draft) (t : Taken input taken left line draft) where
   pub stopped : (ending : Status) (left' : Option (List ℕ)) → left' ≡ left → EndsEarly ending t.read t.rest → HasStopped (Err ending) input left'
   stopped ending left' same ends = record { read = t.read; rest = t.rest; reads = record { parts = t.reads.parts; is_left = same ∙ t.reads.is_left }; stops = ends }
 
@@ -128,7 +177,7 @@ module _ (input : List ℕ) (taken : ℕ) (left : Option (List ℕ)) (line : Lis
         stops = ends (t.read ++ piece) to.0 (omega (arith, length-append t.read piece, t.count));
       }
 
-  pub taken_more : (piece : List ℕ) (left' : Option (List ℕ)) (line' : List ℕ) (draft' : Draft) → Takes left left' piece
+  pub taken_more : (piece : List ℕ) (left' : Option (List ℕ)) (line' : LineSoFar) (draft' : Draft) → Takes left left' piece
       → ((read : List ℕ) → length read ≡ taken → IsReading read line draft → IsReading (read ++ piece) line' draft') → Taken input (taken + length piece) left' line' draft'
   taken_more piece left' line' draft' takes reading =
       let to = takes.told t.rest t.reads.is_left in

@@ -1,4 +1,3 @@
-pub mod LineLemmas
 pub mod ReasonLemmas
 pub mod OntologyLemmas
 pub mod QueryLemmas

@@ -1,5 +1,5 @@
 -- Laws of a draft that takes a line, by what the line says.
-use Rattle.std.proofs.Common.{◌≡◌, ℕ, ◌^◌, ◌<◌, ◌≤◌, inl, inr, List, [], ◌∷◌, ◌++◌, length, All, Contains, Option, Some, None, Bool, true, false, refl, sym, ◌∙◌, ap, subst}
+use Rattle.std.proofs.Common.{◌≡◌, ℕ, inl, inr, List, [], ◌∷◌, ◌++◌, length, All, Contains, Option, Some, None, Bool, true, false, refl, sym, ◌∙◌, ap, subst}
 use Rattle.std.specs.Prelude.{IsSome, is_some, Err, MatchBool}
 use Rattle.std.specs.Option.{ForSome}
 use Rattle.host_io.specs.Causes.{raised}
@@ -20,9 +20,8 @@ use Rattle.script_reader.specs.declared.doc_line.CommandError.{CommandError}
 use Rattle.script_reader.specs.declared.doc_line.CommandError.TheVariants as commands
 use Rattle.script_reader.specs.declared.doc_line.DocLine.{DocLine}
 use Rattle.script_reader.specs.declared.doc_line.DocLine.TheVariants as line
-use Rattle.obda_run.specs.Lines.{line_of}
-use Rattle.obda_run.specs.Feeding.{StandsFor}
-use Rattle.obda_run.specs.Facts.{IsPlaceOf, KeepsFacts}
+use Rattle.dl_base.specs.Numbers.{IsPlaceOf}
+use Rattle.obda_run.specs.Facts.{KeepsFacts}
 use Rattle.obda_run.specs.declared.document.Draft.TheVariants as drafts
 use Rattle.obda_run.specs.Document.{Context, nothing_said, with_line, IsOutOfOrder, AsksTooMuch, IsUnsafe, TooManyFacts, FirstOffence, rank_of}
 use Rattle.obda_run.specs.Drafting.{KeepsOntology, KeepsPartial, NextText, IsAskable, IsAskFault, LacksName, unknown_of}
@@ -35,7 +34,7 @@ use Rattle.obda_run.proofs.OntologyLemmas.{ontology_more, ontology_same, axioms_
 use Rattle.obda_run.proofs.FactLemmas.{no_facts, some_facts, facts_of_none, facts_fit}
 use Rattle.dl_base.proofs.PlaceLemmas.{member_at}
 use Rattle.obda_run.proofs.QueryLemmas.{not_large, not_unsafe, none_unknown, unknown_concept, unknown_role, not_both_first}
-use Rattle.obda_run.proofs.DraftLemmas.{refused_long, refused_by, kept_more}
+use Rattle.obda_run.proofs.DraftLemmas.{refused_by, kept_more}
 use Rattle.dl_base.specs.declared.query.Atom.TheVariants as atom
 
 -- ---- no lines
@@ -43,8 +42,6 @@ use Rattle.dl_base.specs.declared.query.Atom.TheVariants as atom
 pub kept_none : (o : Terminology) (facts : Facts) → KeepsOntology nothing_said o → KeepsFacts o [] facts
     → KeepsPartial [] (record { ontology = o; facts = facts; asked = None; lines = 0 })
 kept_none o facts ontology are = record { said = nothing_said; accepted = refl; ontology = ontology; facts = are; asked = refl; askable = λ q some. absurd cc; number = refl }
-
--- ---- what is kept of a line
 
 -- ---- the query so far
 

@@ -29,7 +29,7 @@ use Rattle.obda_run.specs.Drafting.{KeepsOntology}
 use Rattle.obda_run.specs.declared.reason.Reason.{Reason}
 use Rattle.obda_run.specs.declared.reason.Reason.TheVariants as reason
 use Rattle.obda_run.proofs.FactLemmas.{rows_in_order}
-use Rattle.obda_run.proofs.LineLemmas.{lines_of, are_lines}
+use Rattle.script_reader.proofs.LineLemmas.{lines_of, are_lines}
 use Rattle.obda_run.proofs.OntologyLemmas.{axioms_pass, ontology_more, ontology_none, ontology_same}
 use Rattle.obda_run.proofs.ReasonDecisions.{Settled, settled_line}
 

@@ -1,19 +1,13 @@
 -- Laws of the ontology of a document, as an axiom is added.
 use Rattle.std.proofs.Common.{◌≡◌, ℕ, suc, ◌+◌, ◌<◌, ◌≤◌, ◌⊎◌, inl, inr, List, [], ◌∷◌, ◌++◌, length, All, Contains, refl, sym, ◌∙◌, ap, subst, arith, length-append}
-use Rattle.std.specs.List.{AllByRecursion, AllZip, flat_map}
+use Rattle.std.specs.List.{AllZip, flat_map}
 use Rattle.std.proofs.lemmas.List.{append-nil}
 use Rattle.std.proofs.lemmas.Bool.{cases_order}
 use Rattle.std.proofs.lemmas.Grind.{fold-append, flat_map-append}
 use Rattle.std.proofs.lemmas.List.Elements.{All-cons, All-nil, Contains-append_right}
 use Rattle.dl_base.specs.Ontology.{Terminology}
-use Rattle.dl_base.specs.Axiom.{Statement, with_name, with_names, NumbersHead, NumbersInclusion, Passes, IsExtended}
-use Rattle.dl_base.specs.declared.concept.Basic.TheVariants as basic
-use Rattle.dl_base.specs.declared.concept.Head.{Head}
-use Rattle.dl_base.specs.declared.concept.Head.TheVariants as head
+use Rattle.dl_base.specs.Axiom.{Statement, with_name, with_names, NumbersInclusion, Passes, IsExtended}
 use Rattle.dl_base.specs.declared.concept.Inclusion.{Inclusion}
-use Rattle.dl_base.specs.declared.axiom.NamedBasic.TheVariants as named
-use Rattle.dl_base.specs.declared.axiom.NamedHead.{NamedHead}
-use Rattle.dl_base.specs.declared.axiom.NamedHead.TheVariants as named_head
 use Rattle.dl_base.specs.declared.axiom.NamedInclusion.{NamedInclusion}
 use Rattle.dl_base.specs.declared.ontology.Which.{Which}
 use Rattle.dl_base.specs.declared.ontology.Which.TheVariants as which

@@ -16,13 +16,11 @@ use Rattle.query_shape.specs.Shape.{IsShapeOf, NumbersAtom, Layout}
 use Rattle.query_shape.proofs.NumberingLemmas.{known_of}
 use Rattle.query_shape.specs.ShapeFault.{IsKnown, IsFirstFault, IsAtomFault}
 use Rattle.query_shape.specs.declared.layout.ShapeAtom.{ShapeAtom}
-use Rattle.query_shape.specs.declared.layout.ShapeAtom.TheVariants as shape
 use Rattle.query_shape.specs.declared.numbering.ShapeError.{ShapeError}
 use Rattle.query_shape.specs.declared.numbering.ShapeError.TheVariants as errors
 use Rattle.obda_run.specs.Document.{Context, vocabulary, IsFirstUnknown}
 use Rattle.obda_run.specs.Drafting.{KeepsOntology}
 use Rattle.script_reader.proofs.BlankRules.{same_head, same_tail}
-use Rattle.dl_base.proofs.PlaceLemmas.{member_at}
 use Rattle.std.proofs.lemmas.List.Elements.{Contains-append_right}
 
 -- ---- the limits

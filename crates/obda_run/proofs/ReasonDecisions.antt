@@ -8,9 +8,6 @@ use Rattle.std.proofs.lemmas.List.Elements.{All-nil, All-cons, All-contains, Con
 use Rattle.dl_base.specs.Axiom.{Statement}
 use Rattle.dl_base.specs.Query.{Question, terms}
 use Rattle.dl_base.specs.Rows.{name_cmp, row_cmp, AreRowsOf, AreIndividuals, Names}
-use Rattle.dl_base.specs.declared.axiom.NamedBasic.TheVariants as named
-use Rattle.dl_base.specs.declared.axiom.NamedHead.{NamedHead}
-use Rattle.dl_base.specs.declared.axiom.NamedHead.TheVariants as named_head
 use Rattle.dl_base.specs.declared.axiom.NamedInclusion.{NamedInclusion}
 use Rattle.dl_base.specs.declared.row.NamedRow.{NamedRow}
 use Rattle.dl_base.specs.declared.row.NamedRow.TheVariants as row
@@ -32,7 +29,7 @@ use Rattle.script_reader.specs.declared.doc_line.DocLine.{DocLine}
 use Rattle.script_reader.specs.declared.doc_line.DocLine.TheVariants as line
 use Rattle.script_reader.proofs.LineDecisions.{decided_line}
 use Rattle.obda_run.specs.Document.{Context, concept_names, role_names, inclusions_in, IsOutOfOrder, TooManyAxioms, PassesLimit, AsksTooMuch, IsUnsafe, vocabulary, IsFirstUnknown, NamesUnknownConcept, NamesUnknownRole, TooManyFacts, MakesTooMany, rank_of, Offends, Accepts}
-use Rattle.obda_run.specs.Facts.{names_in}
+use Rattle.dl_base.specs.Numbers.{names_in}
 use Rattle.obda_run.specs.declared.reason.Reason.{Reason}
 use Rattle.obda_run.specs.declared.reason.Reason.TheVariants as reason
 use Rattle.obda_run.proofs.FactLemmas.{rows_in_order}

@@ -5,9 +5,6 @@ use Rattle.dl_base.specs.Ontology.{Terminology}
 use Rattle.dl_base.specs.Axiom.{Statement, with_names, IsExtended}
 use Rattle.dl_base.specs.Rows.{AreRowsOf, AreIndividuals}
 use Rattle.dl_base.specs.Query.{Question}
-use Rattle.dl_base.specs.declared.axiom.NamedBasic.TheVariants as named
-use Rattle.dl_base.specs.declared.axiom.NamedHead.{NamedHead}
-use Rattle.dl_base.specs.declared.axiom.NamedHead.TheVariants as named_head
 use Rattle.dl_base.specs.declared.axiom.NamedInclusion.{NamedInclusion}
 use Rattle.dl_base.specs.declared.row.NamedRow.{NamedRow}
 use Rattle.dl_base.specs.declared.row.NamedRow.TheVariants as row
@@ -16,7 +13,7 @@ use Rattle.dl_base.specs.declared.query.Atom.{Atom}
 use Rattle.dl_base.specs.declared.query.Atom.TheVariants as atom
 use Rattle.cq_reader.specs.QueryLimits.{IsTooLarge, IsFirstUnbound}
 use Rattle.query_shape.specs.ShapeFault.{IsKnown}
-use Rattle.obda_run.specs.Lines.{AreLines}
+use Rattle.script_reader.specs.Lines.{AreLines}
 use Rattle.script_reader.specs.DocLines.{IsDocLine}
 use Rattle.script_reader.specs.declared.doc_line.DocLine.{DocLine}
 use Rattle.script_reader.specs.declared.doc_line.DocLine.TheVariants as line

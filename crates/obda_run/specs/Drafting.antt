@@ -1,16 +1,12 @@
 -- What is kept of a document while its lines are read.
 use Rattle.std.specs.Prelude.{◌≡◌, ℕ, ◌≤◌, ◌<◌, ◌^◌, List, length, All, Contains, Some, Result, Ok, Err}
 use Rattle.std.specs.Option.{ForSome}
-use Rattle.std.specs.List.{AllByRecursion}
 use Rattle.dl_base.specs.Ontology.{Terminology}
 use Rattle.dl_base.specs.Query.{Question, IsQuery}
 use Rattle.dl_base.specs.Replies.{Replied, Answers, Inconsistent, IsReply}
 use Rattle.clash_report.specs.Report.{IsNamedClash}
 use Rattle.reply_text.specs.declared.reply.Reply.{Reply}
 use Rattle.reply_text.specs.declared.reply.Reply.TheVariants as shown
-use Rattle.dl_base.specs.declared.concept.Basic.TheVariants as basic
-use Rattle.dl_base.specs.declared.concept.Head.{Head}
-use Rattle.dl_base.specs.declared.concept.Head.TheVariants as head
 use Rattle.dl_base.specs.declared.axiom.NamedInclusion.{NamedInclusion}
 use Rattle.dl_base.specs.declared.row.NamedRow.{NamedRow}
 use Rattle.dl_base.specs.declared.row.NamedRow.TheVariants as row

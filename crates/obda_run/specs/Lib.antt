@@ -1,6 +1,4 @@
 pub mod Status
-pub mod Lines
-pub mod Feeding
 pub mod Document
 pub mod Facts
 pub mod Sound

@@ -6,8 +6,8 @@ use Rattle.dl_base.specs.Ontology.{Terminology}
 use Rattle.dl_base.specs.Query.{Question}
 use Rattle.dl_base.specs.Replies.{Replied, IsReply}
 use Rattle.dl_base.specs.declared.row.NamedRow.{NamedRow}
-use Rattle.obda_run.specs.Lines.{AreLines, IsCut, line_of}
-use Rattle.obda_run.specs.Feeding.{kept}
+use Rattle.script_reader.specs.Lines.{AreLines, line_of}
+use Rattle.script_reader.specs.Feeding.{LineSoFar, IsBehind}
 use Rattle.obda_run.specs.Document.{IsDocument, Asks, Refused as IsRefused}
 use Rattle.obda_run.specs.Drafting.{KeepsDraft, IsReplyShown, IsWhole}
 use Rattle.reply_text.specs.ReplyText.{text_of_reply}
@@ -88,13 +88,10 @@ pub record Ran (ending : Status) (input : List ℕ) (left old new : Option (List
 
 -- ---- while the input is read
 
--- the bytes so far: what is kept of the piece that hasn't ended, and what the lines that have say
-pub record IsReading (read line : List ℕ) (draft : Draft) : Type 0 where
-  pub pieces : List (List ℕ)
-  pub rest : List ℕ
-  pub cut : IsCut read pieces rest
-  pub line_is : line ≡ kept rest
-  pub keeps : KeepsDraft (map line_of pieces) draft
+-- the bytes so far: the line that was begun last, and what the lines that ended say
+pub record IsReading (read : List ℕ) (line : LineSoFar) (draft : Draft) : Type 0 where
+  pub held : IsBehind read line
+  pub keeps : KeepsDraft (map line_of held.pieces) draft
 
 -- the bytes are a whole document, and this is what it says
 pub record IsDocumentOf (bytes : List ℕ) (document : Document) : Type 0 where

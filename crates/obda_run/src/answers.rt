@@ -1,7 +1,8 @@
 //! The reply to a document.
 ghost use Rattle.std.specs.Prelude.{◌≡◌, ◌<◌, IfOk, All, List, ℕ};
 ghost use Rattle.completion.specs.Individuals.{IsKept};
-ghost use Rattle.completion.specs.Named.{IsNamedCompletion, StandFor};
+ghost use Rattle.completion.specs.Named.{IsNamedCompletion};
+ghost use Rattle.dl_base.specs.Numbers.{StandFor};
 ghost use Rattle.completion.specs.Numbered.{IsNamed, IsRowOf};
 ghost use Rattle.dl_base.specs.Answers.{AreAnswers};
 ghost use Rattle.dl_base.specs.Ontology.{IsTerminology};

@@ -2,13 +2,11 @@
 ghost use Rattle.std.specs.Prelude.{◌≡◌, ◌<◌, ◌≤◌, ◌^◌, ◌++◌, ◌∷◌, [], ◌↔◌, IsTrue, IfOk, IfErr, None, List, ℕ, length, MatchOption};
 ghost use Rattle.host_io.specs.Causes.{raised};
 ghost use Rattle.dl_base.specs.Ontology.{IsTerminology};
-ghost use Rattle.obda_run.specs.Feeding.{StandsFor};
 ghost use Rattle.obda_run.specs.Drafting.{Finishes, IsAskFault, KeepsDraft, KeepsPartial, LacksName, NextLine, NextText, unknown_of};
-ghost use Rattle.obda_run.specs.Facts.{IsPlaceOf};
+ghost use Rattle.dl_base.specs.Numbers.{IsPlaceOf};
 ghost use Rattle.obda_run.specs.Run.{IsFinal};
 
 use crate::facts::Facts;
-use crate::lines::OpenLine;
 use crate::reason::Reason;
 use crate::status::Status;
 use dl_base::{Axiom, ExtendError, NamedRow, Ontology, Query};
@@ -59,17 +57,25 @@ impl Draft {
         }))
     }
 
-    /// The draft with one more line. Lines behind a refused one change nothing.
-    pub fn take_line(self, alloc: Global, line: &OpenLine) -> Result<Draft, AllocError>
-        ensures { (lines : List (List ℕ)) (text : List ℕ) → length lines < 2 ^ 63 → StandsFor line.now text → KeepsDraft lines self
-            → IfOk result (KeepsDraft (lines ++ text ∷ [])) }
+    /// The draft with one more line that is not too long. Lines behind a refused one change nothing.
+    pub fn take_line(self, alloc: Global, text: &[u8]) -> Result<Draft, AllocError>
+        ensures { (lines : List (List ℕ)) → length lines < 2 ^ 63 → length text.now ≤ 4096 → KeepsDraft lines self
+            → IfOk result (KeepsDraft (lines ++ text.now ∷ [])) }
     {
         match self {
             Draft::Refused { reason, line } => Ok(Draft::Refused { reason, line }),
-            Draft::Reading(partial) => match line.line() {
-                Some(text) => partial.take_text(alloc, text),
-                None => Ok(partial.refused(Reason::TooLong)),
-            },
+            Draft::Reading(partial) => partial.take_text(alloc, text),
+        }
+    }
+
+    /// The draft with one more line that is too long. Behind a refused one it changes nothing.
+    pub fn take_long_line(self) -> Draft
+        ensures { (lines : List (List ℕ)) (text : List ℕ) → length lines < 2 ^ 63 → 4096 < length text → KeepsDraft lines self
+            → KeepsDraft (lines ++ text ∷ []) result }
+    {
+        match self {
+            Draft::Refused { reason, line } => Draft::Refused { reason, line },
+            Draft::Reading(partial) => partial.refused(Reason::TooLong),
         }
     }
 

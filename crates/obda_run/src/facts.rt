@@ -1,12 +1,12 @@
 //! The facts of a document, by numbers.
 ghost use Rattle.std.specs.Prelude.{◌≡◌, ◌≢◌, ◌≤◌, ◌↔◌, ◌++◌, ◌∷◌, [], IsTrue, IfOk, OnOk, MatchBool, List, AllPairs, length};
 ghost use Rattle.assert_tables.specs.Rows.{AreRisingRows};
-ghost use Rattle.completion.specs.Named.{NumbersRow};
 ghost use Rattle.dl_base.specs.Axiom.{with_names};
+ghost use Rattle.dl_base.specs.Numbers.{IsPlaceOf, NumbersRow, names_in};
 ghost use Rattle.dl_base.specs.Ontology.{Terminology, IsTerminology};
 ghost use Rattle.dl_base.specs.declared.row.NamedRow.{NamedRow as AnyRow};
 ghost use Rattle.obda_run.specs.Document.{TooManyFacts};
-ghost use Rattle.obda_run.specs.Facts.{IsPlaceOf, KeepsFacts, names_in};
+ghost use Rattle.obda_run.specs.Facts.{KeepsFacts};
 
 use assert_tables::Assertions;
 use dl_base::{NameBook, NamedRow, Row};

@@ -2,14 +2,15 @@
 ghost use Rattle.std.specs.Prelude.{◌≡◌, ◌<◌, ◌≤◌, ◌+◌, ◌^◌, ◌++◌, ℕ, List, [], IfOk, IfErr, IsErrOf, length, take};
 ghost use Rattle.std.specs.Option.{ForSome};
 ghost use Rattle.host_io.specs.Causes.{Rose};
+ghost use Rattle.script_reader.specs.Feeding.{IsBehind};
 ghost use Rattle.obda_run.specs.Sound.{IsSound};
 ghost use Rattle.obda_run.specs.Drafting.{KeepsDraft};
 ghost use Rattle.obda_run.specs.Run.{HasStopped, IsEarly, IsFinal, IsReading, IsRead};
 
 use crate::document::{Document, Draft};
-use crate::lines::OpenLine;
 use crate::status::Status;
 use host_io::{Failed, Source};
+use script_reader::{Fed, Lines};
 use std::alloc::{AllocError, Global};
 
 /// The most bytes of an input.
@@ -30,24 +31,24 @@ pub fn read_document<S: Source>(alloc: Global, source: &mut S) -> Result<Documen
     let Ok(draft) = Draft::new(alloc) else {
         return Err(Status::NoMemory);
     };
-    let Ok(line) = OpenLine::new(alloc) else {
+    let Ok(lines) = Lines::new(alloc) else {
         return Err(Status::NoMemory);
     };
     let Ok(mut buffer) = vec![in alloc; 0u8; BUFFER] else {
         return Err(Status::NoMemory);
     };
-    read_lines(alloc, source, draft, line, buffer.as_mut_slice())
+    read_lines(alloc, source, draft, lines, buffer.as_mut_slice())
 }
 
 fn read_lines<S: Source>(
     alloc: Global,
     source: &mut S,
     mut draft: Draft,
-    mut line: OpenLine,
+    mut lines: Lines,
     buffer: &mut [u8],
 ) -> Result<Document, Status>
     requires draft { KeepsDraft [] draft }
-    requires line { line ≡ [] }
+    requires lines { IsBehind [] lines }
     requires buffer { length buffer.old ≡ 65536 }
     ensures later { S.read_faults source.old ≤ S.read_faults source.new }
     ensures fault { IsErrOf result Status.ReadFault → Rose (S.read_faults source.old) (S.read_faults source.new) }
@@ -63,12 +64,12 @@ fn read_lines<S: Source>(
             return Err(Status::ReadFault);
         };
         if count == 0 {
-            return finish(alloc, draft, &line);
+            return finish(alloc, draft, lines);
         }
         if taken == MAX_INPUT {
             return Err(Status::InputTooLarge);
         }
-        match take_piece(alloc, draft, &mut line, &buffer[..count]) {
+        match take_piece(alloc, draft, &mut lines, &buffer[..count]) {
             Ok(next) => draft = next,
             Err(_) => return Err(Status::NoMemory),
         }
@@ -98,15 +99,15 @@ fn room_after(taken: u64) -> usize
 fn take_piece(
     alloc: Global,
     mut draft: Draft,
-    line: &mut OpenLine,
+    lines: &mut Lines,
     piece: &[u8],
 ) -> Result<Draft, AllocError>
-    ensures { (read : List ℕ) → length read + length piece.now < 2 ^ 63 → IsReading read line.old draft
-        → IfOk result (IsReading (read ++ piece.now) line.new) }
+    ensures { (read : List ℕ) → length read + length piece.now < 2 ^ 63 → IsReading read lines.old draft
+        → IfOk result (IsReading (read ++ piece.now) lines.new) }
 {
     let mut rest = piece;
     while !rest.is_empty() {
-        let (next, count) = take_part(alloc, draft, line, rest)?;
+        let (next, count) = take_part(alloc, draft, lines, rest)?;
         draft = next;
         rest = &rest[count..];
     }
@@ -117,33 +118,33 @@ fn take_piece(
 fn take_part(
     alloc: Global,
     draft: Draft,
-    line: &mut OpenLine,
+    lines: &mut Lines,
     bytes: &[u8],
 ) -> Result<(Draft, usize), AllocError>
     ensures within { IfOk result (λ taken. taken.1 ≤ length bytes.now) }
     ensures some { 0 < length bytes.now → IfOk result (λ taken. 0 < taken.1) }
-    ensures reading { (read : List ℕ) → length read < 2 ^ 63 → IsReading read line.old draft
-        → IfOk result (λ taken. IsReading (read ++ take taken.1 bytes.now) line.new taken.0) }
+    ensures reading { (read : List ℕ) → length read < 2 ^ 63 → IsReading read lines.old draft
+        → IfOk result (λ taken. IsReading (read ++ take taken.1 bytes.now) lines.new taken.0) }
 {
-    let (count, ended) = line.feed(bytes);
-    if !ended {
-        return Ok((draft, count));
+    let (count, fed) = lines.feed(bytes);
+    match fed {
+        Fed::More => Ok((draft, count)),
+        Fed::Line => Ok((draft.take_line(alloc, lines.line())?, count)),
+        Fed::TooLong => Ok((draft.take_long_line(), count)),
     }
-    let next = draft.take_line(alloc, line)?;
-    line.clear();
-    Ok((next, count))
 }
 
 /// The document, where the input has ended.
-fn finish(alloc: Global, draft: Draft, line: &OpenLine) -> Result<Document, Status>
+fn finish(alloc: Global, draft: Draft, mut lines: Lines) -> Result<Document, Status>
     ensures ending { IfErr result IsFinal }
-    ensures read { (read : List ℕ) → length read ≤ 67108864 → IsReading read line.now draft → IsRead result read }
+    ensures read { (read : List ℕ) → length read ≤ 67108864 → IsReading read lines draft → IsRead result read }
 {
-    if line.is_empty() {
-        return draft.finish();
-    }
-    match draft.take_line(alloc, line) {
-        Ok(whole) => whole.finish(),
-        Err(_) => Err(Status::NoMemory),
+    match lines.finish() {
+        Fed::More => draft.finish(),
+        Fed::Line => match draft.take_line(alloc, lines.line()) {
+            Ok(whole) => whole.finish(),
+            Err(_) => Err(Status::NoMemory),
+        },
+        Fed::TooLong => draft.take_long_line().finish(),
     }
 }

@@ -4,10 +4,11 @@
 mod answers;
 mod command;
 mod document;
+#[cfg(test)]
+mod documents;
 mod facts;
 mod input;
 pub mod laws;
-mod lines;
 mod reason;
 mod status;
 #[cfg(test)]

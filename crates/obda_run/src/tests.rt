@@ -1,323 +1,11 @@
 // Documents and their replies, through the top call.
 use super::*;
+use crate::documents::{clashes, inclusions, queries, refusals, texts, witnesses};
 use host_io::{Areas, Bytes, Calls, Failed, Host, MemHost, MemSource, Source, StdSource};
 use std::alloc::Global;
 use std::io::{self, Read};
 use std::process::Abort;
 use std::test::Fail;
-
-// A document, how the run ends, and what is printed.
-const REPLIES: [(&[u8], Status, &[u8]); 61] = [
-    (
-        b"axiom SubClassOf(Prof Staff)\nfact Prof ann\nask q(?x) :- Staff(?x)\n",
-        Status::Done,
-        b"answer ann\nend 1\n",
-    ),
-    (
-        b"axiom SubClassOf(Prof Staff)\nask q(?x) :- Staff(?x)\n",
-        Status::Done,
-        b"end 0\n",
-    ),
-    (b"", Status::Refused { code: 1, line: 1 }, b""),
-    (b"\n", Status::Refused { code: 1, line: 2 }, b""),
-    (b"# none", Status::Refused { code: 1, line: 2 }, b""),
-    // A chain of inclusions.
-    (
-        b"axiom SubClassOf(A B)\naxiom SubClassOf(B C)\nfact A x\nask q(?y) :- C(?y)\n",
-        Status::Done,
-        b"answer x\nend 1\n",
-    ),
-    // What is asked for implies more, and isn't implied by it.
-    (
-        b"axiom SubClassOf(A B)\nfact B x\nask q(?y) :- A(?y)\n",
-        Status::Done,
-        b"end 0\n",
-    ),
-    // A cycle, and keys in the order of their bytes, each once.
-    (
-        b"axiom SubClassOf(A B)\naxiom SubClassOf(B A)\nfact A b\nfact B aa\nfact A b\nfact A a\nfact B b\nask q(?x) :- B(?x)\n",
-        Status::Done,
-        b"answer a\nanswer aa\nanswer b\nend 3\n",
-    ),
-    // Domain, range and a body of two, from both ends of a role.
-    (
-        b"axiom Domain(r A)\naxiom Range(r B)\naxiom SubClassOf(And(A B) C)\nfact r a b\nfact r b a\nask q(?x,?y) :- r(?x,?y), C(?y)\n",
-        Status::Done,
-        b"answer a b\nanswer b a\nend 2\n",
-    ),
-    (
-        b"axiom Domain(r A)\naxiom Range(r B)\naxiom SubClassOf(And(A B) C)\nfact r a b\nask q(?x) :- C(?x)\n",
-        Status::Done,
-        b"end 0\n",
-    ),
-    (
-        b"axiom Range(Inv(r) A)\nfact r a b\nask q(?x) :- A(?x)\n",
-        Status::Done,
-        b"answer a\nend 1\n",
-    ),
-    (
-        b"axiom Equivalent(A And(B C))\nfact B x\nfact C x\nfact B y\nask q(?v) :- A(?v)\n",
-        Status::Done,
-        b"answer x\nend 1\n",
-    ),
-    // A path, a cycle back, a loop, two parts, and names in a query.
-    (
-        b"axiom Property(r)\nfact r a b\nfact r b c\nask q(?x,?z) :- r(?x,?y), r(?y,?z)\n",
-        Status::Done,
-        b"answer a c\nend 1\n",
-    ),
-    (
-        b"axiom Property(r)\nfact r a b\nfact r b b\nask q(?x) :- r(?x,?x)\n",
-        Status::Done,
-        b"answer b\nend 1\n",
-    ),
-    (
-        b"axiom Property(r)\naxiom Class(A)\nfact r a b\nfact A c\nask q(?y,?x) :- r(?x,?z), A(?y)\n",
-        Status::Done,
-        b"answer c a\nend 1\n",
-    ),
-    (
-        b"axiom Property(r)\nfact r a b\nfact r c d\nask q(?y) :- r(a,?y)\n",
-        Status::Done,
-        b"answer b\nend 1\n",
-    ),
-    (
-        b"axiom Property(r)\nfact r a b\nask q(?x) :- r(?x,nobody)\n",
-        Status::Done,
-        b"end 0\n",
-    ),
-    // As many atoms as a query may have.
-    (
-        b"axiom Class(A)\nfact A x\nask q(?x) :- A(?x),A(?x),A(?x),A(?x),A(?x),A(?x),A(?x),A(?x),A(?x),A(?x),A(?x),A(?x),A(?x),A(?x),A(?x),A(?x),A(?x),A(?x),A(?x),A(?x),A(?x),A(?x),A(?x),A(?x)\n",
-        Status::Done,
-        b"answer x\nend 1\n",
-    ),
-    // No answer variable, and one twice.
-    (
-        b"axiom Class(A)\nfact A x\nfact A y\nask q() :- A(?x)\n",
-        Status::Done,
-        b"answer\nend 1\n",
-    ),
-    (
-        b"axiom Class(A)\nask q() :- A(?x)\n",
-        Status::Done,
-        b"end 0\n",
-    ),
-    (
-        b"axiom Class(A)\nfact A x\nask q(?x,?x) :- A(?x)\n",
-        Status::Done,
-        b"answer x x\nend 1\n",
-    ),
-    // One name for a concept, a role and an individual.
-    (
-        b"axiom Domain(a c)\naxiom Class(a)\nfact a a\nfact a a a\nask q(?a) :- a(?a), a(?a,?a), c(?a)\n",
-        Status::Done,
-        b"answer a\nend 1\n",
-    ),
-    // Successors that no fact names: two individuals don't share one, nor does one lead back to itself; steps that fold
-    // back; a successor that a fact names.
-    (
-        b"axiom SubClassOf(A Some(r))\nfact A a\nfact A b\nask q(?x,?y) :- r(?x,?z), r(?y,?z)\n",
-        Status::Done,
-        b"answer a a\nanswer b b\nend 2\n",
-    ),
-    (
-        b"axiom SubClassOf(A Some(r))\nfact A a\nfact A b\nask q(?x) :- r(?x,?z)\n",
-        Status::Done,
-        b"answer a\nanswer b\nend 2\n",
-    ),
-    (
-        b"axiom SubClassOf(A Some(r))\naxiom SubClassOf(Some(Inv(r)) Some(r))\nfact A a\nask q() :- r(?x,?x)\n",
-        Status::Done,
-        b"end 0\n",
-    ),
-    (
-        b"axiom SubClassOf(A Some(r))\naxiom SubClassOf(Some(Inv(r)) Some(r))\nfact A a\nask q() :- r(?x,?y), r(?y,?z), r(?z,?u)\n",
-        Status::Done,
-        b"answer\nend 1\n",
-    ),
-    (
-        b"axiom SubClassOf(A Some(r))\naxiom SubClassOf(Some(Inv(r)) Some(s))\nfact A a\nfact A b\nask q(?x,?y) :- r(?x,?u), s(?u,?v), s(?w,?v), r(?y,?w)\n",
-        Status::Done,
-        b"answer a a\nanswer b b\nend 2\n",
-    ),
-    (
-        b"axiom SubClassOf(A Some(r))\nfact A a\nfact r a b\nask q(?y) :- r(a,?y)\n",
-        Status::Done,
-        b"answer b\nend 1\n",
-    ),
-    // Clashes: behind a role, named successors or not; along two roles; the number among the inclusions of one axiom.
-    (
-        b"axiom SubClassOf(A Some(r))\naxiom Range(r B)\naxiom Range(r C)\naxiom Disjoint(B C)\nfact A bob\nask q(?x) :- B(?x)\n",
-        Status::Done,
-        b"inconsistent 4 bob via r\n",
-    ),
-    (
-        b"axiom SubClassOf(A Some(r))\naxiom Range(r B)\naxiom Range(r C)\naxiom Disjoint(B C)\nfact r a b\nask q(?x) :- B(?x)\n",
-        Status::Done,
-        b"inconsistent 4 a via r\n",
-    ),
-    (
-        b"axiom Equivalent(A And(B C))\naxiom Disjoint(A D E)\nfact B x\nfact C x\nfact E x\nask q(?v) :- A(?v)\n",
-        Status::Done,
-        b"inconsistent 5 x\n",
-    ),
-    (
-        b"axiom SubClassOf(A Some(r))\naxiom SubClassOf(Some(Inv(r)) Some(s))\naxiom Range(s B)\naxiom SubClassOf(B nothing)\nfact A z\nask q() :- A(?x)\n",
-        Status::Done,
-        b"inconsistent 4 z via r s\n",
-    ),
-    // The first individual by name, the first role in role order, direct before inverse, and back along a role; and an
-    // inclusion to nothing whose body is never derived.
-    (
-        b"axiom SubClassOf(A nothing)\nfact A z\nfact A b\nask q(?x) :- A(?x)\n",
-        Status::Done,
-        b"inconsistent 1 b\n",
-    ),
-    (
-        b"axiom Property(s)\naxiom Range(s B)\naxiom Domain(r B)\naxiom SubClassOf(A And(Some(s) Some(Inv(r))))\naxiom SubClassOf(B nothing)\nfact A x\nask q() :- A(?x)\n",
-        Status::Done,
-        b"inconsistent 5 x via Inv(r)\n",
-    ),
-    (
-        b"axiom SubClassOf(A Some(r))\naxiom SubClassOf(Some(r) nothing)\nfact C x\nfact A a\nask q() :- C(?x)\n",
-        Status::Refused { code: 6, line: 3 },
-        b"",
-    ),
-    (
-        b"axiom SubClassOf(Some(r) nothing)\naxiom SubClassOf(A Some(Inv(r)))\nfact A a\nask q() :- A(?x)\n",
-        Status::Done,
-        b"inconsistent 1 a via Inv(r)\n",
-    ),
-    (
-        b"axiom SubClassOf(And(A B) nothing)\nfact A x\nfact B y\nask q(?x) :- A(?x)\n",
-        Status::Done,
-        b"answer x\nend 1\n",
-    ),
-    // No axiom names the concept or the role.
-    (
-        b"axiom SubClassOf(A B)\nfact A x\nfact C y\nask q(?x) :- B(?x)\n",
-        Status::Refused { code: 6, line: 3 },
-        b"",
-    ),
-    (
-        b"axiom Class(A)\nfact B x\n",
-        Status::Refused { code: 6, line: 2 },
-        b"",
-    ),
-    (
-        b"axiom SubClassOf(A B)\nask q(?x) :- C(?x)\n",
-        Status::Refused { code: 6, line: 2 },
-        b"",
-    ),
-    (
-        b"axiom Class(A)\nfact r x y\n",
-        Status::Refused { code: 7, line: 2 },
-        b"",
-    ),
-    (
-        b"axiom Class(A)\naxiom Property(r)\nfact A x\nask q(?x) :- A(?x), s(?x,?y), B(?x)\n",
-        Status::Refused { code: 7, line: 4 },
-        b"",
-    ),
-    // Lines that have no form, or stand out of order.
-    (
-        b"axiom Class(A)\nfact A x\naxiom Disjoint(A B)\n",
-        Status::Refused { code: 1, line: 3 },
-        b"",
-    ),
-    (b"fact A", Status::Refused { code: 1, line: 1 }, b""),
-    (b"\n\nnonsense\n", Status::Refused { code: 1, line: 3 }, b""),
-    // A query that is unsafe, or too large, or both.
-    (
-        b"axiom SubClassOf(Prof Staff)\nfact Prof ann\nask q(?y) :- Staff(?x)\n",
-        Status::Refused { code: 17, line: 3 },
-        b"",
-    ),
-    (
-        b"axiom SubClassOf(Prof Staff)\nfact Prof ann\nask q(?x) :- Staff(?x),Staff(?x),Staff(?x),Staff(?x),Staff(?x),Staff(?x),Staff(?x),Staff(?x),Staff(?x),Staff(?x),Staff(?x),Staff(?x),Staff(?x),Staff(?x),Staff(?x),Staff(?x),Staff(?x),Staff(?x),Staff(?x),Staff(?x),Staff(?x),Staff(?x),Staff(?x),Staff(?x),Staff(?x)\n",
-        Status::Refused { code: 16, line: 3 },
-        b"",
-    ),
-    (
-        b"axiom SubClassOf(A B)\nask q(?y) :- A(?x),A(?x),A(?x),A(?x),A(?x),A(?x),A(?x),A(?x),A(?x),A(?x),A(?x),A(?x),A(?x),A(?x),A(?x),A(?x),A(?x),A(?x),A(?x),A(?x),A(?x),A(?x),A(?x),A(?x),A(?x)\n",
-        Status::Refused { code: 16, line: 2 },
-        b"",
-    ),
-    (
-        b"axiom SubClassOf(A B)\nask q(?x) :- A(?x)\nask q(?y) :- A(?x)\n",
-        Status::Refused { code: 1, line: 3 },
-        b"",
-    ),
-    // Out of order.
-    (
-        b"axiom Class(A)\nask q(?x) :- A(?x)\nfact A x\n",
-        Status::Refused { code: 1, line: 3 },
-        b"",
-    ),
-    (
-        b"axiom SubClassOf(A B)\nask q(?x) :- A(?x)\nask q(?x) :- B(?x)\n",
-        Status::Refused { code: 1, line: 3 },
-        b"",
-    ),
-    (
-        b"axiom SubClassOf(A B)\nfact A x\naxiom SubClassOf(B C)\n",
-        Status::Refused { code: 1, line: 3 },
-        b"",
-    ),
-    // The first line is named, and of its codes the first.
-    (
-        b"axiom SubClassOf(A B)\nfact C x\nnonsense\n",
-        Status::Refused { code: 6, line: 2 },
-        b"",
-    ),
-    (
-        b"axiom SubClassOf(A B)\nask q(?x) :- A(?x)\nfact C x\n",
-        Status::Refused { code: 1, line: 3 },
-        b"",
-    ),
-    // Lines that end with a carriage return, and a last line without its end.
-    (
-        b"axiom SubClassOf(A B)\r\nfact A x\r\n\r\nask q(?x) :- B(?x)\r",
-        Status::Done,
-        b"answer x\nend 1\n",
-    ),
-    // A carriage return elsewhere.
-    (
-        b"axiom SubClassOf(A B)\nfact A\rx\n",
-        Status::Refused { code: 1, line: 2 },
-        b"",
-    ),
-    // Blanks, tabs and comments.
-    (
-        b" \taxiom  SubClassOf( A\tB ) \n# fact A y\n\t# fact A z\n fact A\t x \n \n\task  q( ?x ) :-  B( ?x )\t\n# the end",
-        Status::Done,
-        b"answer x\nend 1\n",
-    ),
-    // Names in angle brackets, with bytes past ASCII.
-    (
-        b"axiom SubClassOf(<A \xc3\xa4> B)\nfact <A \xc3\xa4> <\xc3\xbc>\nfact B z\nask q(?x) :- B(?x)\n",
-        Status::Refused { code: 1, line: 1 },
-        b"",
-    ),
-    (
-        b"axiom SubClassOf(<A\xc3\xa4> B)\nfact <A\xc3\xa4> <\xc3\xbc>\nfact B z\nask q(?x) :- B(?x)\n",
-        Status::Done,
-        b"answer <\xc3\xbc>\nanswer z\nend 2\n",
-    ),
-    // A name in angle brackets is another one than the same bytes without.
-    (
-        b"axiom SubClassOf(A B)\nfact <A> x\n",
-        Status::Refused { code: 6, line: 2 },
-        b"",
-    ),
-    // Behind the query stand only blank lines and comments.
-    (
-        b"axiom Class(A)\nask q() :- A(?x)\n\n# the end\n \n",
-        Status::Done,
-        b"end 0\n",
-    ),
-];
 
 // The words of the command line.
 fn command_line(alloc: Global, words: &[&str]) -> Result<Vec<String>, Fail> {
@@ -371,18 +59,60 @@ impl Read for Pieces {
     }
 }
 
+// What comes of a document that is read in pieces of so many bytes: how it is refused, and what is printed.
+fn outcome(alloc: Global, document: &'static str, size: usize) -> Result<Vec<u8>, Fail> {
+    let words = command_line(alloc, &["answer"])?;
+    let bytes = document.as_bytes();
+    let mut source = StdSource::new(Pieces { bytes, size });
+    let mut host = MemHost::new(alloc, Areas::new(alloc), Calls::new(alloc));
+    let mut outcome = match run(alloc, &words, &mut source, &mut host) {
+        Status::Done => Vec::new(alloc),
+        Status::Refused { code, line } => {
+            format!(in alloc; "refused {code} {line}\n")?
+                .as_bytes()
+                .to_vec(alloc)?
+        }
+        status => format!(in alloc; "{status:?}\n")?.as_bytes().to_vec(alloc)?,
+    };
+    outcome.extend_from_slice(host.printed().items())?;
+    Ok(outcome)
+}
+
+// Tries each case of the text, and answers how many there are.
+fn try_all(rt: &impl Abort, alloc: Global, text: &'static str) -> Result<usize, Fail> {
+    let mut rest = text;
+    for count in 0..text.len() {
+        let Some((case, more)) = rest.split_once("----\n") else {
+            return Ok(count);
+        };
+        assert!(rt; is_met(alloc, case)?, "{case}");
+        rest = more;
+    }
+    Ok(0)
+}
+
+// Whether the case comes out as it says, in whatever pieces its document is read.
+fn is_met(alloc: Global, case: &'static str) -> Result<bool, Fail> {
+    let Some((document, want)) = case.split_once("=> ") else {
+        return Ok(false);
+    };
+    for size in [1, 2, 4095] {
+        if outcome(alloc, document, size)?.as_slice() != want.as_bytes() {
+            return Ok(false);
+        }
+    }
+    Ok(true)
+}
+
 #[test]
 fn documents_have_their_replies(rt: HostRuntime) -> Result<(), Fail> {
     let alloc = rt.alloc();
-    let words = command_line(alloc, &["answer"])?;
-    for (bytes, want, printed) in REPLIES {
-        for size in [1, 2, 4095] {
-            let mut source = StdSource::new(Pieces { bytes, size });
-            let mut host = MemHost::new(alloc, Areas::new(alloc), Calls::new(alloc));
-            assert_eq!(rt; run(alloc, &words, &mut source, &mut host), want);
-            assert_eq!(rt; host.printed().items(), printed);
-        }
-    }
+    assert_eq!(rt; try_all(&rt, alloc, inclusions())?, 12);
+    assert_eq!(rt; try_all(&rt, alloc, queries())?, 10);
+    assert_eq!(rt; try_all(&rt, alloc, witnesses())?, 6);
+    assert_eq!(rt; try_all(&rt, alloc, clashes())?, 13);
+    assert_eq!(rt; try_all(&rt, alloc, refusals())?, 17);
+    assert_eq!(rt; try_all(&rt, alloc, texts())?, 7);
     Ok(())
 }
 
@@ -407,11 +137,15 @@ fn other_words_touch_nothing(rt: HostRuntime) -> Result<(), Fail> {
     Ok(())
 }
 
+fn staff() -> &'static str {
+    "axiom SubClassOf(Prof Staff)\nfact Prof ann\nask q(?x) :- Staff(?x)\n"
+}
+
 #[test]
 fn the_first_fault_ends_the_run(rt: HostRuntime) -> Result<(), Fail> {
     let alloc = rt.alloc();
     let words = command_line(alloc, &["answer"])?;
-    let document = Bytes::from_slice(alloc, REPLIES[0].0)?;
+    let document = Bytes::from_slice(alloc, staff().as_bytes())?;
     let mut source = MemSource::new(document, Calls::from_slice(alloc, &[1])?);
     let mut host = MemHost::new(alloc, Areas::new(alloc), Calls::new(alloc));
     assert_eq!(rt;
@@ -419,7 +153,7 @@ fn the_first_fault_ends_the_run(rt: HostRuntime) -> Result<(), Fail> {
         Status::ReadFault
     );
     assert_eq!(rt; host.calls(), 0);
-    let document = Bytes::from_slice(alloc, REPLIES[0].0)?;
+    let document = Bytes::from_slice(alloc, staff().as_bytes())?;
     let mut source = MemSource::new(document, Calls::new(alloc));
     let mut host = MemHost::new(alloc, Areas::new(alloc), Calls::from_slice(alloc, &[1])?);
     assert_eq!(rt;

@@ -1,6 +1,7 @@
 use Rattle.std.proofs.Common.{sym, subst}
 use Rattle.dl_base.specs.Ontology.{Terminology}
-use Rattle.completion.specs.Named.{IsNamedCompletion, StandFor}
+use Rattle.completion.specs.Named.{IsNamedCompletion}
+use Rattle.dl_base.specs.Numbers.{StandFor}
 use Rattle.obda_run.proofs.answers.completed.Goals as goal
 
 pub returns-clause-kept : goal.returns-clause-kept

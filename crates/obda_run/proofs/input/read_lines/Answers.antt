@@ -1,10 +1,21 @@
-use Rattle.std.proofs.Common.{◌≡◌, ◌<◌, ◌+◌, ◌++◌, ℕ, List, [], length, take, drop, arith, ap, ◌∙◌, subst, length-append}
+use Rattle.std.proofs.Common.{◌≡◌, ◌<◌, ◌+◌, ◌++◌, ℕ, List, [], length, take, drop, arith, refl, ap, ◌∙◌, subst, length-append}
 use Rattle.std.proofs.lemmas.List.{take-append-le}
 use Rattle.obda_run.specs.Run.{IsReading}
 use Rattle.obda_run.specs.declared.status.Status.TheVariants as status
-use Rattle.obda_run.proofs.InputLemmas.{Taken, stopped, stopped_behind, taken_more, ended, stops_final, within_room, length-piece, length-filled}
+use Rattle.obda_run.proofs.InputLemmas.{Taken, reading_nothing, stopped, stopped_behind, taken_more, ended, stops_final, within_room, length-piece, length-filled}
 use Rattle.obda_run.proofs.SoundLemmas.{read_sound}
 use Rattle.obda_run.proofs.input.read_lines.Goals as goal
+
+pub pieces-init : goal.pieces-init
+pieces-init g c =
+    let nothing : IsReading [] c.args.lines c.args.draft = reading_nothing c.args.lines c.args.draft c.requires.lines c.requires.draft in
+    record {
+      taken = omega arith;
+      room = c.requires.buffer;
+      reading = λ input told. record { read = []; rest = input; reads = record { parts = refl; is_left = told }; count = refl; reading = nothing };
+      kept = ([], refl, nothing);
+      faults = refl;
+    }
 
 pub returns-in_default-clause-read : goal.returns-in_default-clause-read
 returns-in_default-clause-read g c = λ input told.
@@ -51,15 +62,15 @@ pieces-preserved g c =
       room = length-filled c.room_after-room.result c.read.new.buf c.pieces.buffer c.read.auto.buf (omega (arith, c.room_after-room.ensures.buffer, c.pieces.invariant.room)) ∙ c.pieces.invariant.room;
       reading = λ input told.
           let t = c.pieces.invariant.reading input told in
-          let more = taken_more input c.pieces.taken _ _ _ t piece _ c.take_piece.new.line c.in-Ok-take_piece.next c.in-Ok.ensures.taken
-          (λ read is r. subst (λ (l : List ℕ). IsReading (read ++ l) c.take_piece.new.line c.in-Ok-take_piece.next) same
+          let more = taken_more input c.pieces.taken _ _ _ t piece _ c.take_piece.new.lines c.in-Ok-take_piece.next c.in-Ok.ensures.taken
+          (λ read is r. subst (λ (l : List ℕ). IsReading (read ++ l) c.take_piece.new.lines c.in-Ok-take_piece.next) same
           (c.in-Ok-take_piece.ensures read (omega (arith, is, count, room, fits, ap length same)) r)) in
-          subst (λ (n : ℕ). Taken input (c.pieces.taken + n) (g.S.Source.left c.read.new.self) c.take_piece.new.line c.in-Ok-take_piece.next) count more;
+          subst (λ (n : ℕ). Taken input (c.pieces.taken + n) (g.S.Source.left c.read.new.self) c.take_piece.new.lines c.in-Ok-take_piece.next) count more;
       kept =
           let k = c.pieces.invariant.kept in (
             k.0 ++ piece,
             (omega (arith, k.1, length-append k.0 piece, count)),
-            subst (λ (l : List ℕ). IsReading (k.0 ++ l) c.take_piece.new.line c.in-Ok-take_piece.next) same
+            subst (λ (l : List ℕ). IsReading (k.0 ++ l) c.take_piece.new.lines c.in-Ok-take_piece.next) same
                 (c.in-Ok-take_piece.ensures k.0 (omega (arith, k.1, count, room, fits, ap length same)) k.2),
           );
       faults = c.in-Ok.ensures.cause.done ∙ c.pieces.invariant.faults;

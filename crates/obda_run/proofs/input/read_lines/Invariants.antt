@@ -9,8 +9,8 @@ invariant-pieces g l =
     record {
       taken : l.taken ≤ 67108864;
       room : length l.buffer ≡ 65536;
-      reading : (input : List ℕ) → s.left l.fn.source ≡ Some input → Taken input l.taken (s.left l.source) l.line l.draft;
-      kept : (read : List ℕ) × (length read ≡ l.taken) × IsReading read l.line l.draft;
+      reading : (input : List ℕ) → s.left l.fn.source ≡ Some input → Taken input l.taken (s.left l.source) l.lines l.draft;
+      kept : (read : List ℕ) × (length read ≡ l.taken) × IsReading read l.lines l.draft;
       faults : s.read_faults l.source ≡ s.read_faults l.fn.source;
     }
 

@@ -1,13 +1,16 @@
-use Rattle.std.proofs.Common.{arith}
-use Rattle.obda_run.proofs.InputLemmas.{reading_goes_on, reading_ended, line_stands, keeps_so_far, few_lines}
+use Rattle.obda_run.proofs.InputLemmas.{more_told, line_taken, long_line_taken}
 use Rattle.obda_run.proofs.input.take_part.Goals as goal
 
-pub returns-then-not-ended-clause-reading : goal.returns-then-not-ended-clause-reading
-returns-then-not-ended-clause-reading c = λ read few r.
-    reading_goes_on read _ _ c.args.bytes.now c.feed-count.result.0 c.args.draft r (c.feed-count.ensures.goes_on c.if-not-ended.true)
+pub returns-in-More-clause-reading : goal.returns-in-More-clause-reading
+returns-in-More-clause-reading c = λ read few r.
+    more_told read _ _ c.args.bytes.now c.feed-count.result.0 c.args.draft r (c.feed-count.ensures.so_far read r.held) _ c.feed-count.ensures.tells c.in-More.is
 
-pub returns-clause-reading : goal.returns-clause-reading
-returns-clause-reading c = λ read few r.
-    let ended = c.feed-count.ensures.ends c.if-not-ended.false in
-    reading_ended read _ _ c.clear.new.self c.args.bytes.now c.feed-count.result.0 c.in_ok-next.next ended c.clear.ensures
-    (c.in_ok-next.ensures _ _ (omega (arith, few, few_lines read)) (line_stands read _ _ c.args.bytes.now c.feed-count.result.0 c.args.draft r ended) (keeps_so_far read _ c.args.draft r))
+pub returns-in_ok-take_line-in-Line-clause-reading : goal.returns-in_ok-take_line-in-Line-clause-reading
+returns-in_ok-take_line-in-Line-clause-reading c = λ read few r.
+    line_taken read _ _ c.args.bytes.now c.feed-count.result.0 c.args.draft r (c.feed-count.ensures.so_far read r.held) _ c.feed-count.ensures.tells c.in-Line.is
+    few _ c.line.ensures _ c.in_ok-take_line-in-Line.ensures
+
+pub returns-in-TooLong-clause-reading : goal.returns-in-TooLong-clause-reading
+returns-in-TooLong-clause-reading c = λ read few r.
+    long_line_taken read _ _ c.args.bytes.now c.feed-count.result.0 c.args.draft r (c.feed-count.ensures.so_far read r.held) _ c.feed-count.ensures.tells c.in-TooLong.is
+    few _ c.take_long_line.ensures

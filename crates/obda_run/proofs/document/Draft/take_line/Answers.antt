@@ -5,6 +5,6 @@ use Rattle.obda_run.proofs.DraftLemmas.{offence_more}
 use Rattle.obda_run.proofs.document.Draft.take_line.Goals as goal
 
 pub returns-in-Refused : goal.returns-in-Refused
-returns-in-Refused c = λ lines text few stands keeps.
+returns-in-Refused c = λ lines few short keeps.
     let offence = subst (λ (draft : Draft). KeepsDraft lines draft) c.in-Refused.is keeps in
-    offence_more lines text c.in-Refused.line c.in-Refused.reason offence
+    offence_more lines c.args.text.now c.in-Refused.line c.in-Refused.reason offence

@@ -1,5 +1,5 @@
 use Rattle.dl_base.proofs.ExtendLemmas.{interned_is}
-use Rattle.obda_run.proofs.FactLemmas.{names_two, numbered_role}
+use Rattle.dl_base.proofs.NumberedRowLemmas.{names_two, numbered_role}
 use Rattle.obda_run.proofs.facts.Facts.numbered.Goals as goal
 
 pub returns-in_ok-intern-in-Concept-clause-names : goal.returns-in_ok-intern-in-Concept-clause-names
