@@ -1,0 +1,5 @@
+pub mod Printing
+pub mod Serving
+pub mod Taking
+pub mod Run
+pub mod Laws
