@@ -18,3 +18,6 @@ mod taking;
 pub use ending::Ending;
 pub use fault::Fault;
 pub use running::run;
+
+#[cfg(test)]
+mod tests;

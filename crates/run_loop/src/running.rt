@@ -69,7 +69,7 @@ pub fn run<E: Engine, S: Source, H: Host, L: Ledger>(
 }
 
 /// Runs a script over a base that is loaded.
-fn run_loaded<E: Engine, S: Source, H: Host, L: Ledger>(
+pub(crate) fn run_loaded<E: Engine, S: Source, H: Host, L: Ledger>(
     alloc: Global,
     engine: E,
     source: &mut S,
