@@ -1,5 +1,5 @@
 -- What the calls of a base say of the disk, and what a stop inside them leaves.
-use Rattle.std.specs.Prelude.{◌≡◌, ◌⊎◌, ◌≤◌, ℕ, List, Option, Some, None, Result, OnOk, OnErr}
+use Rattle.std.specs.Prelude.{◌≡◌, ◌≢◌, ◌⊎◌, ◌≤◌, ℕ, List, Option, Some, None, Result, OnOk, OnErr}
 use Rattle.std.specs.Option.{ForSome}
 use Rattle.host_io.specs.Disk.{Disk, IsImage, IsSettled}
 use Rattle.host_io.specs.Moments.{IsShown, Left, LeavesOnly}
@@ -108,3 +108,7 @@ TouchesArea (request.Bad e) = ⊥
 -- the request loads the base again
 abbrev pub IsReopen : Request → Type 0
 IsReopen q = q ≡ request.Plain command.Reopen
+
+-- Where the request loads the base again, the disk is told. Over one that isn't told nothing says which history is found.
+abbrev pub ReloadsWhatIsTold : Request → Option Disk → Type 0
+ReloadsWhatIsTold q disk = IsReopen q → disk ≢ None

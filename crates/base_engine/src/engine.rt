@@ -7,7 +7,7 @@ ghost use Rattle.host_io.specs.Disk.{Disk};
 ghost use Rattle.host_io.specs.Moments.{LeavesOnly};
 ghost use Rattle.base_store.specs.Area.{IsDamaged, KeepsHistory};
 ghost use Rattle.base_store.specs.History.{History};
-ghost use Rattle.base_engine.specs.Calls.{BothStay, DiskKeeps, IsDamage, HasKeptState, IsReopen, Loads, SecondStays, StaysTold, StepLeaves, StillKeeps, TouchesArea};
+ghost use Rattle.base_engine.specs.Calls.{BothStay, DiskKeeps, IsDamage, HasKeptState, IsReopen, Loads, ReloadsWhatIsTold, SecondStays, StaysTold, StepLeaves, StillKeeps, TouchesArea};
 ghost use Rattle.base_engine.specs.Requests.{IsGiven, commit_of};
 ghost use Rattle.base_engine.specs.State.{IsInitial, MachineState};
 ghost use Rattle.base_engine.specs.Steps.{StepsTo};
@@ -83,7 +83,7 @@ pub trait Engine: Drop {
         requires few { taken self < 100000000 }
 
         // One step of the machine, from each state that it stands for and whose history the area holds.
-        ensures steps { (s : MachineState) → stands self s → DiskKeeps (H.disk host.old) s.history → IfOk result (λ done.
+        ensures steps { (s : MachineState) → stands self s → DiskKeeps (H.disk host.old) s.history → ReloadsWhatIsTold request (H.disk host.old) → IfOk result (λ done.
             (t : MachineState) × StepsTo s request done.1 t × stands done.0 t × DiskKeeps (H.disk host.new) t.history) }
         ensures ready { IfOk result (λ done. HasKeptState (stands done.0) (H.disk host.new)) }
         ensures counted { steps.old ≤ steps.new }

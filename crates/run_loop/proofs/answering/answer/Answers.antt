@@ -1,4 +1,4 @@
-use Rattle.std.proofs.Common.{◌++◌, [], ◌∷◌, ◌∙◌, sym, ap, Some, refl, subst, ⊎_elim}
+use Rattle.std.proofs.Common.{◌≡◌, ◌++◌, [], ◌∷◌, ◌∙◌, sym, ap, Some, None, refl, subst, ⊎_elim}
 use Rattle.std.specs.Prelude.{Err}
 use Rattle.run_loop.specs.Serving.{Ended}
 use Rattle.run_loop.specs.declared.fault.Fault.{Fault}
@@ -12,7 +12,7 @@ returns-in-Ok-print_reply-clause-serves g c = λ start a requests s stands serve
     let now = serves.replied in
     let keeps = kept_told (h.disk c.args.host.now) now.d s.history now.told now.kept in
     let run = c.step.ensures.moments s stands now.d now.told (kept_told (Some now.d) now.d s.history refl now.kept) in
-    let done = c.in-Ok.ensures.steps s stands keeps in
+    let done = c.in-Ok.ensures.steps s stands keeps (λ reopens none. (let t = now.told in let e : Some now.d ≡ None = sym t ∙ none in cc)) in
     let pending = stepped h.disk h.printed h.clock h.might start a requests s c.args.request c.args.host.now c.step.new.host serves c.step.ensures.printed c.step.ensures.told c.step.ensures.second run c.in-Ok.reply done.0 done.1 done.3 in
     (done.0, done.2, printed_whole h.disk h.printed h.clock h.might start a requests s c.args.request c.in-Ok.reply done.0 c.step.new.host c.print_reply.new.host pending c.in-Ok-print_reply.ensures.prints.whole)
 
@@ -22,7 +22,7 @@ returns-in-Err-print_reply-clause-serves g c = λ start a requests s stands serv
     let now = serves.replied in
     let keeps = kept_told (h.disk c.args.host.now) now.d s.history now.told now.kept in
     let run = c.step.ensures.moments s stands now.d now.told (kept_told (Some now.d) now.d s.history refl now.kept) in
-    let done = c.in-Ok.ensures.steps s stands keeps in
+    let done = c.in-Ok.ensures.steps s stands keeps (λ reopens none. (let t = now.told in let e : Some now.d ≡ None = sym t ∙ none in cc)) in
     let pending = stepped h.disk h.printed h.clock h.might start a requests s c.args.request c.args.host.now c.step.new.host serves c.step.ensures.printed c.step.ensures.told c.step.ensures.second run c.in-Ok.reply done.0 done.1 done.3 in
     let ended = λ (f : Fault). Ended h.disk h.printed h.clock h.might start a (requests ++ c.args.request ∷ []) f c.print_reply.new.host in
     ⊎_elim
