@@ -2,3 +2,4 @@ pub mod RowOrder
 pub mod MentionLemmas
 pub mod CountLemmas
 pub mod SearchLemmas
+pub mod LeftLemmas

@@ -87,9 +87,6 @@ module _ (o : Terminology) (derived : Basic → Type 0) (r : Role) (place : ℕ)
   least_takes (Some c) (Some d) z has first (inr (same, less)) least = subst (IsLeastBehind o derived (place + 1)) (sym same)
       (here d has first.0, λ e b. elim (old_or_here e b) [ inl old ↦ before_both (clash_cmp o) (clash_total o) d c e less (least.1 e old) | inr new ↦ first.1 e new.1 ])
 
-pub least_at_first : (o : Terminology) (derived : Basic → Type 0) → IsLeastBehind o derived 0 None
-least_at_first o derived c b = absurd (let below = b.below in omega arith)
-
 module _ (o : Terminology) (held : Basic → Type 0) (c : ClosedSet) (closure : IsClosure o.inclusions held c) where
   -- an inclusion is violated at once
   pub own_first_after : (k : ℕ) → c.violated ≡ Some k → IsFirstAfter o held (Some (record { inclusion = k; path = [] }))

@@ -1,8 +1,9 @@
 -- The order of elements.
-use Rattle.std.proofs.Common.{◌≡◌, ℕ, Bool, true, false, List, [], ◌∷◌, refl, ap}
+use Rattle.std.proofs.Common.{◌≡◌, ◌≢◌, ℕ, Bool, true, false, List, [], ◌∷◌, refl, sym, ap, subst}
 use Rattle.std.specs.Cmp.{IsTotalOrder}
 use Rattle.std.specs.Cmp.Lexicographic.{slice_cmp}
-use Rattle.std.specs.declared.cmp.Ordering.TheVariants.{Equal}
+use Rattle.std.specs.declared.cmp.Ordering.{Ordering}
+use Rattle.std.specs.declared.cmp.Ordering.TheVariants.{Less, Equal, Greater}
 use Rattle.std.specs.Ordering.{ordering_then, nat_cmp, on}
 use Rattle.std.proofs.lemmas.Cmp.{nat_list_cmp_total, on_total}
 use Rattle.dl_base.specs.Clashes.{inverse_cmp}
@@ -59,3 +60,14 @@ elem_same (elem.Shared w) (elem.Shared v) e =
     let direct = inverse_same w.role.inverse v.role.inverse (then_first _ _ rest) in
     let last = nat_same w.generation v.generation (then_second (inverse_cmp w.role.inverse v.role.inverse) _ rest) in
     λ j. elem.Shared (record { role = record { name = name j; inverse = direct j }; generation = last j })
+
+-- what isn't above an element that isn't above a third isn't above the third
+pub upto_trans : (x y z : Elem) → elem_cmp x y ≢ Greater → elem_cmp y z ≢ Greater → elem_cmp x z ≢ Greater
+upto_trans x y z first second = by (elem_cmp x y) refl (elem_cmp y z) refl
+  where
+    by : (r : Ordering) → elem_cmp x y ≡ r → (s : Ordering) → elem_cmp y z ≡ s → elem_cmp x z ≢ Greater
+    by Less p Less q e = absurd (let less : elem_cmp x z ≡ Less = elem_total.trans x y z p q in cc)
+    by r p Equal q e = absurd (first (subst (λ (w : Elem). elem_cmp x w ≡ Greater) (sym (elem_same y z q)) e))
+    by Equal p s q e = absurd (second (subst (λ (w : Elem). elem_cmp w z ≡ Greater) (elem_same x y p) e))
+    by Greater p s q e = absurd (first p)
+    by r p Greater q e = absurd (second q)

@@ -8,6 +8,7 @@ pub mod PlaceLemmas
 pub mod ExtendLemmas
 pub mod RowLemmas
 pub mod InOrder
+pub mod IndividualLemmas
 pub mod ElemLemmas
 pub mod TableExamples
 pub mod SetLemmas

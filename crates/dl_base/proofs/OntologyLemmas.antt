@@ -32,14 +32,6 @@ all_wider c r c' r' is hc hr all = All-weaker (IsWithin c r) (IsWithin c' r') (�
 pub within_limits : (o : Terminology) → IsTerminology o → All (IsWithin 512 256) o.inclusions
 within_limits o t = all_wider (length o.concepts) (length o.roles) 512 256 o.inclusions t.concepts t.roles t.within
 
--- an ontology within its limits is one
-pub well_formed : (o : Terminology) → IsTerminology o → IsWellFormed o
-well_formed o t = record {
-  distinct_concepts = t.distinct_concepts;
-  distinct_roles = t.distinct_roles;
-  placed = All-weaker (IsWithin (length o.concepts) (length o.roles)) (NamesPlaces (length o.concepts) (length o.roles)) (λ i w. record { body = w.body; head = w.head }) o.inclusions t.within;
-}
-
 -- what is derived from concepts of an ontology is of the ontology
 pub derived_placed : (o : Terminology) → IsTerminology o → (held : Basic → Type 0) → ((b : Basic) → held b → IsPlaced (length o.concepts) (length o.roles) b)
     → (b : Basic) → Derives o.inclusions held b → IsPlaced (length o.concepts) (length o.roles) b

@@ -10,7 +10,7 @@ use Rattle.dl_base.specs.declared.concept.Basic.{Basic}
 use Rattle.dl_base.specs.declared.concept.Basic.TheVariants as basic
 use Rattle.dl_base.specs.declared.concept.Role.{Role}
 use Rattle.dl_base.specs.declared.element.Elem.{Elem}
-use Rattle.dl_base.proofs.ElemLemmas.{elem_total, elem_same}
+use Rattle.dl_base.proofs.ElemLemmas.{elem_total, elem_same, upto_trans}
 use Rattle.dl_base.proofs.PlaceLemmas.{map_contains, map_from, member_at, some_same}
 use Rattle.dl_base.proofs.RowLemmas.{contains_cut}
 use Rattle.std.proofs.lemmas.List.Kept.{AllPairs-cons}
@@ -20,17 +20,6 @@ use Rattle.listed_tables.specs.Listed.{GivesElem, IsGivenBy, IsLower, table_row}
 use Rattle.listed_tables.specs.declared.sought.Sought.{Sought}
 use Rattle.listed_tables.specs.declared.sought.Sought.TheVariants as sought
 use Rattle.listed_tables.specs.declared.tables.ListedRow.{ListedRow}
-
--- what is not above goes through
-not_above_through : (x y z : Elem) → elem_cmp x y ≢ Greater → elem_cmp y z ≢ Greater → elem_cmp x z ≢ Greater
-not_above_through x y z first second = by (elem_cmp x y) refl (elem_cmp y z) refl
-  where
-    by : (r : Ordering) → elem_cmp x y ≡ r → (s : Ordering) → elem_cmp y z ≡ s → elem_cmp x z ≢ Greater
-    by Less p Less q e = absurd (let less : elem_cmp x z ≡ Less = elem_total.trans x y z p q in cc)
-    by r p Equal q e = absurd (first (subst (λ (w : Elem). elem_cmp x w ≡ Greater) (sym (elem_same y z q)) e))
-    by Equal p s q e = absurd (second (subst (λ (w : Elem). elem_cmp w z ≡ Greater) (elem_same x y p) e))
-    by Greater p s q e = absurd (first p)
-    by r p Greater q e = absurd (second q)
 
 module _ (s : Sought) (rows : List ListedRow) (r : ListedRow) where
   -- ---- one more row
@@ -83,7 +72,7 @@ module _ (s : Sought) (rows : List ListedRow) (r : ListedRow) where
         before None is e there beyond = let has = subst (IsLeastAbove (IsGivenBy s rows) after) is h in absurd (has e there beyond)
         before (Some l) is e there beyond =
             let has = subst (IsLeastAbove (IsGivenBy s rows) after) is h in
-            not_above_through found l e (lower.not_above_least l is) (has.2 e there beyond)
+            upto_trans found l e (lower.not_above_least l is) (has.2 e there beyond)
 
   -- ---- how many there are
 

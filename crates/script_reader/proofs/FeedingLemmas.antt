@@ -120,15 +120,6 @@ closed_behind bytes text old b none =
       };
     }
 
-pub behind_nothing : IsBehind [] (record { bytes = []; ended = false })
-behind_nothing = record {
-  pieces = [];
-  rest = [];
-  cut = record { joined = refl; none_inside = tt; none_behind = tt };
-  goes_on = λ _. refl;
-  closed = λ no. absurd cc;
-}
-
 -- ---- what is told
 
 never_more : (o : Option (List ℕ)) → fed.More ≡ told o → ⊥
@@ -161,8 +152,3 @@ feeds_more old new input none is = record {
       (subst (λ (l : List ℕ). IsBehind (bytes ++ l) (record { bytes = kept (begun old ++ input); ended = false })) (sym (take_all (length input) input (omega arith)))
       (open_behind bytes input old b none));
 }
-
-pub tells_last : (old new : LineSoFar) (f : Fed) → 0 < length (begun old) → new ≡ record { bytes = begun old; ended = true } → f ≡ told (given new.bytes) → TellsLast old f new
-tells_last old new fed.More some is e = absurd (never_more (given new.bytes) e)
-tells_last old new fed.Line some is e = (some, is, sym e)
-tells_last old new fed.TooLong some is e = (some, is, sym e)

@@ -8,6 +8,7 @@ use Rattle.grammar.specs.Reading.{Outcome, whole}
 use Rattle.grammar.specs.Grammar.{Grammar, Begins, IsFaultAt}
 use Rattle.grammar.specs.Grammar.{Contains as HasValue}
 use Rattle.grammar.proofs.Exact.{IsExact, Anything, Nothing, IsWhole, exact_fewer, exact_whole}
+use Rattle.grammar.proofs.FaultPlaces.{not_before}
 use Rattle.dl_base.specs.Ontology.{Terminology}
 use Rattle.dl_base.proofs.ExtendLemmas.{contains_any}
 use Rattle.txn_codec.specs.Checked.{Checked, IsLeastFault}
@@ -17,21 +18,6 @@ use Rattle.txn_codec.specs.OntologyReading.{new_name_at, ontology_at}
 use Rattle.txn_codec.proofs.CheckedRules.{IsChecked, IsFlawed}
 use Rattle.txn_codec.proofs.OntologyRules.{any_contains, checks_ontology}
 use Rattle.txn_codec.proofs.Flawless.{flawless}
-
--- what begins a text of the grammar does so with fewer bytes
-begins_less : {V : Type 0} (g : Grammar V) (text : List ℕ) (n m : ℕ) → m ≤ n → n ≤ length text → Begins g (take n text) → Begins g (take m text)
-begins_less g text n m le within b =
-    let front : take m (take n text) ≡ take m text =
-    sym (take-append-le m (take n text) (drop n text) (omega (arith, le, within, length-take n text))) ∙ ap (λ (a : List ℕ). take m a) (take-append-drop n text) in
-    let cut : take m text ++ (drop m (take n text) ++ b.0) ≡ take n text ++ b.0 =
-    ap (λ (a : List ℕ). a ++ (drop m (take n text) ++ b.0)) (sym front) ∙ sym (append_assoc (take m (take n text)) (drop m (take n text)) b.0) ∙ ap (λ (a : List ℕ). a ++ b.0) (take-append-drop m (take n text)) in
-    (drop m (take n text) ++ b.0, b.1, subst (λ (a : List ℕ). g a b.1) (sym cut) b.2)
-
-not_before : {V : Type 0} (g : Grammar V) (text : List ℕ) (place at : ℕ) → place ≤ length text → Begins g (take place text) → IsFaultAt g text at → place ≤ at
-not_before g text place at within b f = elim (cases_lt at place) [
-  | inl lt ↦ absurd (f.here (omega (arith, lt, within)) (begins_less g text place (at + 1) (omega (arith, lt)) within b))
-  | inr le ↦ le
-]
 
 -- what a reading of all bytes gives
 pub record IsOne {V : Type 0} (c : Checked V) (text : List ℕ) (v : V) : Type 0 where
