@@ -1,6 +1,6 @@
--- The book after the live roles were set once.
+-- The book after the live roles were set.
 use Rattle.std.proofs.Common.{◌≡◌, ℕ, ◌+◌, ◌⊎◌, ◌↔◌, inl, inr, List, length, sym, ◌∙◌, subst, arith}
-use Rattle.completion.specs.Completed.{IsFirstBook}
+use Rattle.completion.specs.Completed.{IsBookOf, IsFirstBook}
 use Rattle.completion.specs.Numbered.{IsLiveRole, IsPointedTo}
 use Rattle.dl_base.specs.Ontology.{Terminology}
 use Rattle.dl_base.specs.Sets.{HasRole}
@@ -29,17 +29,26 @@ module _ (o : Terminology) (rows : List Row) (empty pointed live : List ℕ) (no
     λ is. (reached r).1 (reached_more o (IsPointedTo o rows) (HasRole pointed) is_pointed is),
   )
 
-  pub first_book : (roles : ℕ) (old new : Witnesses) → roles ≡ length o.roles → IsUnused roles old → SetsLive old live new → IsFirstBook o rows new
-  first_book roles old new all unused sets = record {
-    roles = sets.roles ∙ (unused.roles ∙ all);
+  pub live_after : (old new : Witnesses) → SetsLive old live new → (r : Role) → HasRole new.live r ↔ IsLiveRole o rows r
+  live_after old new sets r = subst (λ (words : List ℕ). HasRole words r ↔ IsLiveRole o rows r) (sym sets.live) (live_is r)
+
+-- what was set is what is live now
+pub set_again : (old : Witnesses) (these : List ℕ) (new : Witnesses) → SetsLive old these new → SetsLive old new.live new
+set_again old these new sets = subst (λ (words : List ℕ). SetsLive old words new) (sym sets.live) sets
+
+module _ (o : Terminology) (rows : List Row) (old new : Witnesses) (live : (r : Role) → HasRole new.live r ↔ IsLiveRole o rows r) (sets : SetsLive old new.live new) where
+  pub book_of : old.roles ≡ length o.roles → IsBookOf o rows new
+  book_of all = record { roles = sets.roles ∙ all; live = live }
+
+  pub first_book : (roles : ℕ) → IsUnused roles old → IsFirstBook o rows new
+  first_book roles unused = record {
     calls = (let before = unused.calls in let after = sets.calls in omega arith);
-    live = λ r. (
-      λ has. (live_is r).0 (subst (λ (words : List ℕ). HasRole words r) sets.live has),
-      λ is. subst (λ (words : List ℕ). HasRole words r) (sym sets.live) ((live_is r).1 is),
-    );
     first = λ r is.
-        let becomes : BecomesLive old.live live r = record { now = (live_is r).1 is; not_before = unused.none_live r } in
+        let becomes : BecomesLive old.live new.live r = record { now = (live r).1 is; not_before = unused.none_live r } in
         let raised : generation_of new r ≡ generation_of old r + 1 = (sets.generations r).raised becomes in
         let never : generation_of old r ≡ 0 = unused.never_live r in
         omega (arith, raised, never);
+    others = λ r not.
+        let kept : generation_of new r ≡ generation_of old r = (sets.generations r).kept (λ becomes. not ((live r).0 becomes.now)) in
+        kept ∙ unused.never_live r;
   }

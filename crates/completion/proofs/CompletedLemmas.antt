@@ -1,7 +1,7 @@
 -- Rows of completed tables by numbers are those of the definition, by names.
-use Rattle.std.proofs.Common.{◌≡◌, ℕ, ◌↔◌, inl, inr, false, List, slice_get, Contains, Some, refl, sym, ◌∙◌, ap, subst}
+use Rattle.std.proofs.Common.{◌≡◌, ℕ, ◌↔◌, inl, inr, false, List, slice_get, Contains, Some, refl, sym, ap, subst}
 use Rattle.completion.specs.Completed.{Completion, IsCompletionOf}
-use Rattle.completion.specs.Edges.{ElemPoints, IsDerivedElem, IsFirstWitness, IsTableRow, Leads, by_row, forth, back, first_witness}
+use Rattle.completion.specs.Edges.{ElemPoints, IsDerivedElem, IsLiveWitness, IsTableRow, Leads, by_row, forth, back, witness_of}
 use Rattle.completion.specs.Named.{IsNamedCompletion}
 use Rattle.dl_base.specs.Numbers.{NumbersRow, StandFor}
 use Rattle.completion.specs.Numbered.{HoldsBy, IsLiveRole}
@@ -40,56 +40,56 @@ module _ (o : Terminology) (names : List (List ℕ)) (rows : List Row) (these : 
   abbrev At : Elem → Node → Type 0
   At = Represents names generation
 
-  first_at : (w : Witness) → IsFirstWitness o rows w → At (elem.Shared w) (WitnessOf w.role)
-  first_at w first = (refl, first.first ∙ sym (is.book.first w.role first.live))
+  witness_at : (w : Witness) → IsLiveWitness o rows generation w → At (elem.Shared w) (WitnessOf w.role)
+  witness_at w is_live = (refl, is_live.now)
 
-  -- a live role's node is its first witness
-  live_at : (w : Witness) (r : Role) → At (elem.Shared w) (WitnessOf r) → IsLiveRole o rows r → w ≡ first_witness r
-  live_at w r at live = let role = at.0 in let one = at.1 ∙ is.book.first r live in λ j. record { role = role j; generation = one j }
+  -- a role's node is its witness
+  at_witness : (w : Witness) (r : Role) → At (elem.Shared w) (WitnessOf r) → w ≡ witness_of generation r
+  at_witness w r at = let role = at.0 in let one = at.1 in λ j. record { role = role j; generation = one j }
 
-  live_first : (w : Witness) (r : Role) → At (elem.Shared w) (WitnessOf r) → IsLive o these r → IsFirstWitness o rows w
-  live_first w r at live =
+  live_witness : (w : Witness) (r : Role) → At (elem.Shared w) (WitnessOf r) → IsLive o these r → IsLiveWitness o rows generation w
+  live_witness w r at live =
       let numbered : IsLiveRole o rows r = live_numbered o names rows these within stand live in
-      subst (IsFirstWitness o rows) (sym (live_at w r at numbered)) (record { live = numbered; first = refl })
+      subst (IsLiveWitness o rows generation) (sym (at_witness w r at)) (record { live = numbered; now = refl })
 
   -- ---- concepts
 
-  concept_node : (b : Basic) (e : Elem) → IsDerivedElem o rows b e → (n : Node) × At e n × IsNode o these n × DerivedAtNode o these n b
+  concept_node : (b : Basic) (e : Elem) → IsDerivedElem o rows generation b e → (n : Node) × At e n × IsNode o these n × DerivedAtNode o these n b
   concept_node b (elem.Named n) (named, d) =
       let found = name_of o names rows these within stand n named in
       (Individual found.0, found.1, found.2, monotone o.inclusions _ _ (holds_held o names rows these within stand n found.0 found.1) d)
-  concept_node b (elem.Shared w) (first, d) = (WitnessOf w.role, first_at w first, live_named o names rows these within stand first.live, d)
+  concept_node b (elem.Shared w) (first, d) = (WitnessOf w.role, witness_at w first, live_named o names rows these within stand first.live, d)
 
-  node_concept : (b : Basic) (e : Elem) (n : Node) → At e n → IsNode o these n → DerivedAtNode o these n b → IsDerivedElem o rows b e
+  node_concept : (b : Basic) (e : Elem) (n : Node) → At e n → IsNode o these n → DerivedAtNode o these n b → IsDerivedElem o rows generation b e
   node_concept b (elem.Named n) (Individual a) at there d =
       (named_individual o names rows these within stand n a at there, monotone o.inclusions _ _ (held_holds o names rows these within stand n a at) d)
   node_concept b (elem.Shared w) (WitnessOf r) at there d =
-      (live_first w r at there, subst (λ (s : Role). DerivedAtNode o these (WitnessOf s) b) (sym at.0) d)
+      (live_witness w r at there, subst (λ (s : Role). DerivedAtNode o these (WitnessOf s) b) (sym at.0) d)
   node_concept b (elem.Named n) (WitnessOf r) at there d = absurd at
   node_concept b (elem.Shared w) (Individual a) at there d = absurd at
 
   -- ---- points
 
-  points_node : (r : Role) (e : Elem) → ElemPoints o rows r e → (n : Node) × At e n × NodePoints o these n r
+  points_node : (r : Role) (e : Elem) → ElemPoints o rows generation r e → (n : Node) × At e n × NodePoints o these n r
   points_node r (elem.Named n) (named, points) =
       let found = name_of o names rows these within stand n named in
       (Individual found.0, found.1, points_named o names rows these within stand n found.0 found.1 r found.2 points)
-  points_node r (elem.Shared w) (first, points) = (WitnessOf w.role, first_at w first, (live_named o names rows these within stand first.live, points))
+  points_node r (elem.Shared w) (first, points) = (WitnessOf w.role, witness_at w first, (live_named o names rows these within stand first.live, points))
 
-  node_points : (r : Role) (e : Elem) (n : Node) → At e n → NodePoints o these n r → ElemPoints o rows r e
+  node_points : (r : Role) (e : Elem) (n : Node) → At e n → NodePoints o these n r → ElemPoints o rows generation r e
   node_points r (elem.Named n) (Individual a) at points =
       (named_individual o names rows these within stand n a at points.individual, points_numbered o names rows these within stand n a at r points)
-  node_points r (elem.Shared w) (WitnessOf s) at (live, points) = (live_first w s at live, subst (λ (t : Role). RolePoints o t r) (sym at.0) points)
+  node_points r (elem.Shared w) (WitnessOf s) at (live, points) = (live_witness w s at live, subst (λ (t : Role). RolePoints o t r) (sym at.0) points)
   node_points r (elem.Named n) (WitnessOf s) at points = absurd at
   node_points r (elem.Shared w) (Individual a) at points = absurd at
 
-  -- the first witness of a role to which an element points is the role's node
-  witness_node : (r : Role) (e : Elem) → ElemPoints o rows r e → At (elem.Shared (first_witness r)) (WitnessOf r)
-  witness_node r e points = first_at (first_witness r) (record { live = points_live o rows r e points; first = refl })
+  -- the witness of a role to which an element points is the role's node
+  witness_node : (r : Role) (e : Elem) → ElemPoints o rows generation r e → At (elem.Shared (witness_of generation r)) (WitnessOf r)
+  witness_node r e points = witness_at (witness_of generation r) (record { live = points_live o rows generation r e points; now = refl })
 
-  node_witness : (r : Role) (e f : Elem) → ElemPoints o rows r e → At f (WitnessOf r) → f ≡ elem.Shared (first_witness r)
-  node_witness r e (elem.Named n) points at = absurd at
-  node_witness r e (elem.Shared w) points at = ap elem.Shared (live_at w r at (points_live o rows r e points))
+  node_witness : (r : Role) (f : Elem) → At f (WitnessOf r) → f ≡ elem.Shared (witness_of generation r)
+  node_witness r (elem.Named n) at = absurd at
+  node_witness r (elem.Shared w) at = ap elem.Shared (at_witness w r at)
 
   -- ---- rows among individuals
 
@@ -107,7 +107,7 @@ module _ (o : Terminology) (names : List (List ℕ)) (rows : List Row) (these : 
       subst (Contains rows) (λ j. row.Role (role j) (from j) (to j)) there
   row_base p n m a b name (row.Concept d k) at_n at_m at_p there numbers = absurd numbers
 
-  node_row : (p : ℕ) (e f : Elem) (a b : List ℕ) → At e (Individual a) → At f (Individual b) → HasRow o these (direct p) a b → Leads o rows (direct p) e f
+  node_row : (p : ℕ) (e f : Elem) (a b : List ℕ) → At e (Individual a) → At f (Individual b) → HasRow o these (direct p) a b → Leads o rows generation (direct p) e f
   node_row p (elem.Named n) (elem.Named m) a b at_e at_f has =
       let found = stand.each (named.Role has.name a b) has.there in
       by_row n m (row_base p n m a b has.name found.0 at_e at_f has.named found.1 found.2)
@@ -116,7 +116,7 @@ module _ (o : Terminology) (names : List (List ℕ)) (rows : List Row) (these : 
 
   -- ---- roles
 
-  leads_completes : (p : ℕ) (e f : Elem) → Leads o rows (direct p) e f → CompletesRole o these names generation p e f
+  leads_completes : (p : ℕ) (e f : Elem) → Leads o rows generation (direct p) e f → CompletesRole o these names generation p e f
   leads_completes p _ _ (by_row n m there) =
       let found = stand.only (row.Role p n m) there in
       let named_row = base_row p n m found.0 found.1 found.2 in
@@ -146,18 +146,18 @@ module _ (o : Terminology) (names : List (List ℕ)) (rows : List Row) (these : 
         leads = inr (inr (refl, node.2));
       }
 
-  completes_leads : (p : ℕ) (e f : Elem) (x y : Node) → At e x → At f y → RoleLeads o these p x y → Leads o rows (direct p) e f
+  completes_leads : (p : ℕ) (e f : Elem) (x y : Node) → At e x → At f y → RoleLeads o these p x y → Leads o rows generation (direct p) e f
   completes_leads p e f x y at_e at_f (inl base) = node_row p e f base.from base.to (subst (At e) base.from_is at_e) (subst (At f) base.to_is at_f) base.row
   completes_leads p e f x y at_e at_f (inr (inl (to, points))) =
       let pointing = node_points (direct p) e x at_e points in
-      subst (Leads o rows (direct p) e) (sym (node_witness (direct p) e f pointing (subst (At f) to at_f))) (forth e pointing)
+      subst (Leads o rows generation (direct p) e) (sym (node_witness (direct p) f (subst (At f) to at_f))) (forth e pointing)
   completes_leads p e f x y at_e at_f (inr (inr (from, points))) =
       let pointing = node_points (inverse (direct p)) f y at_f points in
-      subst (λ (g : Elem). Leads o rows (direct p) g f) (sym (node_witness (inverse (direct p)) f e pointing (subst (At e) from at_e))) (back f pointing)
+      subst (λ (g : Elem). Leads o rows generation (direct p) g f) (sym (node_witness (inverse (direct p)) e (subst (At e) from at_e))) (back f pointing)
 
   -- ---- all rows
 
-  row_completed : (t : TableRow) → IsTableRow o rows t ↔ IsCompletedRow o these names generation t
+  row_completed : (t : TableRow) → IsTableRow o rows generation t ↔ IsCompletedRow o these names generation t
   row_completed (ConceptRow k e) = (
     λ d. (let found = concept_node (basic.Concept k) e d in record { node = found.0; is = found.1; there = found.2; derived = found.3 }),
     λ h. node_concept (basic.Concept k) e h.node h.is h.there h.derived,

@@ -1,7 +1,7 @@
 -- The elements from which a role leads are those at which a successor is derived.
 use Rattle.std.proofs.Common.{◌≡◌, ◌≢◌, ℕ, ◌⊎◌, inl, inr, Bool, true, false, not, List, [], ◌∷◌, Contains, refl, sym, ◌∙◌, ap, subst, arith}
 use Rattle.std.proofs.lemmas.Bool.{cases_eq}
-use Rattle.completion.specs.Edges.{ElemPoints, IsDerivedElem, IsFirstWitness, Leads, by_row, forth, back, first_witness, numbered_row}
+use Rattle.completion.specs.Edges.{ElemPoints, IsDerivedElem, IsLiveWitness, Leads, by_row, forth, back, witness_of, numbered_row}
 use Rattle.completion.specs.Numbered.{GivesBasic, HoldsBy, IsLiveRole, IsNamed}
 use Rattle.completion.proofs.HeldLemmas.{gives_named}
 use Rattle.dl_base.specs.Completion.{DerivedBehind}
@@ -112,47 +112,47 @@ module _ (n : ℕ) where
 
 -- ---- elements from which a role leads
 
-module _ (o : Terminology) (rows : List Row) where
+module _ (o : Terminology) (rows : List Row) (generation : Role → ℕ) where
   -- who points to a role makes it live
-  pub points_live : (r : Role) (e : Elem) → ElemPoints o rows r e → IsLiveRole o rows r
+  pub points_live : (r : Role) (e : Elem) → ElemPoints o rows generation r e → IsLiveRole o rows r
   points_live r (elem.Named n) points = first (n, points.0, points.1)
   points_live r (elem.Shared w) points = next points.0.live points.1
 
   -- to a live role someone points
-  live_pointed : {r : Role} → IsLiveRole o rows r → (e : Elem) × ElemPoints o rows r e
+  live_pointed : {r : Role} → IsLiveRole o rows r → (e : Elem) × ElemPoints o rows generation r e
   live_pointed {r} (first p) = (elem.Named p.0, (p.1, p.2))
-  live_pointed {r} (next {s} before points) = (elem.Shared (first_witness s), (record { live = before; first = refl }, points))
+  live_pointed {r} (next {s} before points) = (elem.Shared (witness_of generation s), (record { live = before; now = refl }, points))
 
-  points_derived : (r : Role) (e : Elem) → ElemPoints o rows r e → IsDerivedElem o rows (basic.Exists r) e
+  points_derived : (r : Role) (e : Elem) → ElemPoints o rows generation r e → IsDerivedElem o rows generation (basic.Exists r) e
   points_derived r (elem.Named n) points = (points.0, points.1.derived)
   points_derived r (elem.Shared w) points = (points.0, points.1.derived)
 
-  row_derived : (r : Role) (n m : ℕ) → Contains rows (numbered_row r.inverse r.name n m) → IsDerivedElem o rows (basic.Exists r) (elem.Named n)
+  row_derived : (r : Role) (n m : ℕ) → Contains rows (numbered_row r.inverse r.name n m) → IsDerivedElem o rows generation (basic.Exists r) (elem.Named n)
   row_derived r n m there =
       let holds : HoldsBy rows n (basic.Exists r) = given_holds n rows r.inverse r.name (m, there) in
       ((holds.0, holds.1, gives_named holds.0 n (basic.Exists r) holds.2), leaf holds)
 
-  pub leads_derived : (r : Role) (e f : Elem) → Leads o rows r e f → IsDerivedElem o rows (basic.Exists r) e
+  pub leads_derived : (r : Role) (e f : Elem) → Leads o rows generation r e f → IsDerivedElem o rows generation (basic.Exists r) e
   leads_derived r _ _ (by_row n m there) = row_derived r n m there
   leads_derived r _ _ (forth e points) = points_derived r e points
-  leads_derived r _ _ (back f points) = (record { live = points_live (inverse r) f points; first = refl }, leaf (ap basic.Exists (sym (inverse_twice r))))
+  leads_derived r _ _ (back f points) = (record { live = points_live (inverse r) f points; now = refl }, leaf (ap basic.Exists (sym (inverse_twice r))))
 
-  named_leads : (r : Role) (n : ℕ) → IsNamed rows n → Derives o.inclusions (HoldsBy rows n) (basic.Exists r) → (f : Elem) × Leads o rows r (elem.Named n) f
+  named_leads : (r : Role) (n : ℕ) → IsNamed rows n → Derives o.inclusions (HoldsBy rows n) (basic.Exists r) → (f : Elem) × Leads o rows generation r (elem.Named n) f
   named_leads r n named d = elim (some_gives n rows r.inverse r.name) [
     | inl holds ↦ (let given = gives_given n rows r.inverse r.name holds.0 holds.1 holds.2 in (elem.Named given.0, by_row n given.0 given.1))
-    | inr none ↦ (elem.Shared (first_witness r), forth (elem.Named n) (named, record { derived = d; no_row = none }))
+    | inr none ↦ (elem.Shared (witness_of generation r), forth (elem.Named n) (named, record { derived = d; no_row = none }))
   ]
 
-  shared_leads : (r : Role) (w : Witness) → IsFirstWitness o rows w → DerivedBehind o w.role (basic.Exists r) → (f : Elem) × Leads o rows r (elem.Shared w) f
+  shared_leads : (r : Role) (w : Witness) → IsLiveWitness o rows generation w → DerivedBehind o w.role (basic.Exists r) → (f : Elem) × Leads o rows generation r (elem.Shared w) f
   shared_leads r w is d = elim (same_role_or_not r (inverse w.role)) [
     | inl same ↦
         let turned : inverse r ≡ w.role = ap inverse same ∙ inverse_twice w.role in
         let pointed = live_pointed (subst (IsLiveRole o rows) (sym turned) is.live) in
-        let whole : first_witness (inverse r) ≡ w = λ j. record { role = turned j; generation = sym is.first j } in
-        (pointed.0, subst (λ (v : Witness). Leads o rows r (elem.Shared v) pointed.0) whole (back pointed.0 pointed.1))
-    | inr other ↦ (elem.Shared (first_witness r), forth (elem.Shared w) (is, record { derived = d; not_back = other }))
+        let whole : witness_of generation (inverse r) ≡ w = λ j. record { role = turned j; generation = (ap generation turned ∙ sym is.now) j } in
+        (pointed.0, subst (λ (v : Witness). Leads o rows generation r (elem.Shared v) pointed.0) whole (back pointed.0 pointed.1))
+    | inr other ↦ (elem.Shared (witness_of generation r), forth (elem.Shared w) (is, record { derived = d; not_back = other }))
   ]
 
-  pub derived_leads : (r : Role) (e : Elem) → IsDerivedElem o rows (basic.Exists r) e → (f : Elem) × Leads o rows r e f
+  pub derived_leads : (r : Role) (e : Elem) → IsDerivedElem o rows generation (basic.Exists r) e → (f : Elem) × Leads o rows generation r e f
   derived_leads r (elem.Named n) (named, d) = named_leads r n named d
   derived_leads r (elem.Shared w) (is, d) = shared_leads r w is d

@@ -1,11 +1,10 @@
 -- Least elements of several kinds.
 use Rattle.std.proofs.Common.{◌≡◌, ◌≢◌, ℕ, ◌⊎◌, inl, inr, [], Option, Some, None, refl, ◌∙◌, ap, subst, arith}
-use Rattle.std.specs.declared.cmp.Ordering.TheVariants.{Less, Equal, Greater}
-use Rattle.std.specs.declared.cmp.Ordering.{Ordering}
+use Rattle.std.specs.declared.cmp.Ordering.TheVariants.{Less, Greater}
 use Rattle.std.specs.Ordering.{ordering_reverse}
 use Rattle.dl_base.specs.Tables.{AreCounted, IsAbove, IsLeastAbove, elem_cmp}
 use Rattle.dl_base.specs.declared.element.Elem.{Elem}
-use Rattle.dl_base.proofs.ElemLemmas.{elem_total, elem_same}
+use Rattle.dl_base.proofs.ElemLemmas.{elem_total, upto_trans}
 use Rattle.completion.specs.Least.{IsLesser, IsUpTo}
 
 -- what is true of the same elements has the same least one, and as many
@@ -30,14 +29,6 @@ flipped x z e = elem_total.antisymm z x ∙ ap ordering_reverse e
 
 more_of : (x z : Elem) → elem_cmp x z ≡ Less → elem_cmp z x ≡ Greater
 more_of x z e = elem_total.antisymm z x ∙ ap ordering_reverse e
-
-upto_trans : (x y z : Elem) → elem_cmp x y ≢ Greater → elem_cmp y z ≢ Greater → elem_cmp x z ≢ Greater
-upto_trans x y z low high more = by (elem_cmp x y) refl
-  where
-    by : (r : Ordering) → elem_cmp x y ≡ r → ⊥
-    by Greater e = low e
-    by Equal e = high (subst (λ (w : Elem). elem_cmp w z ≡ Greater) (elem_same x y e) more)
-    by Less e = high (more_of z y (elem_total.trans z x y (flipped x z more) e))
 
 -- the lesser of two least ones is the least of both kinds
 module _ (P Q : Elem → Type 0) (after : Option Elem) where

@@ -10,6 +10,7 @@ use Rattle.std.proofs.lemmas.List.Elements.{Contains-get_or}
 use Rattle.std.proofs.lemmas.List.Kept.{AllPairs-cons}
 use Rattle.assert_tables.specs.Rows.{IsNumberAbove, IsNextIndividual, individuals_of}
 use Rattle.assert_tables.proofs.CountLemmas.{named_individual}
+use Rattle.assert_tables.proofs.LeftLemmas.{above_on}
 use Rattle.completion.specs.Individuals.{AreAtIndividuals, IsAt, IsKept, found_at}
 use Rattle.completion.specs.Numbered.{IsNamed, IsPointedTo, PointsTo}
 use Rattle.completion.specs.declared.individuals.AtIndividual.{AtIndividual}
@@ -21,10 +22,6 @@ use Rattle.dl_base.proofs.PlaceLemmas.{no_more, some_same}
 use Rattle.dl_base.proofs.RisingLemmas.{contains_cases, nat_same}
 
 -- ---- the individuals gone through
-
-above_on : (after : Option ℕ) (i n : ℕ) → IsNumberAbove after i → i < n → IsNumberAbove after n
-above_on None i n above less = tt
-above_on (Some a) i n above less = omega arith
 
 -- up to that one distinct individuals were gone through, with one step for each
 pub record Gone (rows : List Row) (after : Option ℕ) (start steps : ℕ) : Type 0 where

@@ -17,16 +17,19 @@ pub record Completion : Type 0 where
   pub book : Witnesses
   pub rows : List TableRow
 
--- the book is for the roles of the ontology, the live roles were set once, they are those of the rows, and each is in its
--- first generation
-pub record IsFirstBook (o : Terminology) (rows : List Row) (b : Witnesses) : Type 0 where
+-- the book is for the roles of the ontology, and its live roles are those of the rows
+pub record IsBookOf (o : Terminology) (rows : List Row) (b : Witnesses) : Type 0 where
   pub roles : b.roles ≡ length o.roles
-  pub calls : b.calls ≡ 1
   pub live : (r : Role) → HasRole b.live r ↔ IsLiveRole o rows r
-  pub first : (r : Role) → IsLiveRole o rows r → generation_of b r ≡ 1
 
--- it is what the ontology derives from the rows
+-- the live roles were set once: each is in its first generation, and no other role has one
+pub record IsFirstBook (o : Terminology) (rows : List Row) (b : Witnesses) : Type 0 where
+  pub calls : b.calls ≡ 1
+  pub first : (r : Role) → IsLiveRole o rows r → generation_of b r ≡ 1
+  pub others : (r : Role) → (IsLiveRole o rows r → ⊥) → generation_of b r ≡ 0
+
+-- it is what the ontology derives from the rows, each witness in the generation that the book has for its role
 pub record IsCompletionOf (o : Terminology) (rows : List Row) (c : Completion) : Type 0 where
   pub individuals : AreAtIndividuals o rows c.individuals
-  pub book : IsFirstBook o rows c.book
-  pub table : (row : TableRow) → Contains c.rows row ↔ IsTableRow o rows row
+  pub book : IsBookOf o rows c.book
+  pub table : (row : TableRow) → Contains c.rows row ↔ IsTableRow o rows (generation_of c.book) row

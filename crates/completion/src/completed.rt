@@ -1,5 +1,5 @@
 //! What is completed of asserted rows.
-ghost use Rattle.std.specs.Prelude.{◌≡◌, ◌≤◌, ◌+◌, ℕ, List, All, IfOk, MatchOption, None, Some, length};
+ghost use Rattle.std.specs.Prelude.{◌≡◌, ◌≤◌, ◌<◌, ◌+◌, ℕ, List, All, IfOk, MatchOption, None, Some, length};
 ghost use Rattle.assert_tables.specs.Rows.{individuals_of};
 ghost use Rattle.completion.specs.Completed.{IsCompletionOf, IsFirstBook};
 ghost use Rattle.completion.specs.Individuals.{IsKept, IsLeastNumber, found_at};
@@ -11,6 +11,7 @@ ghost use Rattle.dl_base.specs.declared.row.NamedRow.{NamedRow};
 ghost use Rattle.completion.specs.declared.individuals.AtIndividual.{AtIndividual as AnyAt};
 ghost use Rattle.horn_closure.specs.Closure.{IsScratchOf};
 ghost use Rattle.role_graph.specs.Graph.{IsGraphOf};
+ghost use Rattle.witness_book.specs.Witnesses.{SetsLive};
 
 use crate::fill::table_rows;
 use crate::individuals::{AtIndividual, at_individuals, next_in};
@@ -57,21 +58,42 @@ impl Completed {
         requires scratch { IsScratchOf rules.now scratch.old }
         requires within { All (IsRowOf rules.now) rows.now }
         ensures completion { IfOk result (IsCompletionOf rules.now rows.now) }
+        ensures first { IfOk result (λ c. IsFirstBook rules.now rows.now c.book) }
         ensures named { (names : List (List ℕ)) (these : List NamedRow) → StandFor rules.now names rows.now these → IfOk result (IsNamedCompletion rules.now names these) }
         ensures scratch { scratch.new ≡ scratch.old }
         ensures most { steps.new ≤ steps.old + length (individuals_of rows.now) }
+        ensures least { steps.old ≤ steps.new }
     {
-        let mut pointed = RoleSet::new();
-        let individuals = at_individuals(alloc, rules, rows, &mut pointed, scratch, steps)?;
-        let live = graph.live(&pointed);
-        let mut book = WitnessBook::new(alloc, rules.roles().len() as u32)?;
-        book.set_live(&live);
-        let table = table_rows(alloc, rules, graph, rows, &individuals, &book)?;
-        Ok(Completed {
-            individuals,
-            book,
-            table,
-        })
+        let unused = WitnessBook::new(alloc, rules.roles().len() as u32)?;
+        renewed(alloc, rules, graph, rows, unused, scratch, steps)
+    }
+
+    /// What the ontology derives from other rows. A role that stays live keeps its generation, and one that becomes live
+    /// gets the next. This stays as it is, so that it can be used on, whatever becomes of the other. It takes at most one
+    /// step for each individual that the rows name.
+    pub fn renew<L: Ledger>(
+        &self,
+        alloc: Global,
+        rules: &Rules,
+        graph: &RoleGraph,
+        rows: &Assertions,
+        scratch: &mut Scratch,
+        steps: &mut Steps<L>,
+    ) -> Result<Completed, AllocError>
+        requires graph { IsGraphOf rules.now graph.now }
+        requires scratch { IsScratchOf rules.now scratch.old }
+        requires within { All (IsRowOf rules.now) rows.now }
+        requires roles { self.now.book.roles ≡ length rules.now.roles }
+        requires calls { self.now.book.calls < 4000000000 }
+        ensures completion { IfOk result (IsCompletionOf rules.now rows.now) }
+        ensures book { IfOk result (λ c. SetsLive self.now.book c.book.live c.book) }
+        ensures named { (names : List (List ℕ)) (these : List NamedRow) → StandFor rules.now names rows.now these → IfOk result (IsNamedCompletion rules.now names these) }
+        ensures scratch { scratch.new ≡ scratch.old }
+        ensures most { steps.new ≤ steps.old + length (individuals_of rows.now) }
+        ensures least { steps.old ≤ steps.new }
+    {
+        let before = self.book.copy(alloc)?;
+        renewed(alloc, rules, graph, rows, before, scratch, steps)
     }
 
     /// The book of the witnesses. It takes no memory, nor do the calls below.
@@ -106,4 +128,39 @@ impl Completed {
     {
         &self.table
     }
+}
+
+/// What the ontology derives from the rows, where the book is the one of before.
+fn renewed<L: Ledger>(
+    alloc: Global,
+    rules: &Rules,
+    graph: &RoleGraph,
+    rows: &Assertions,
+    before: WitnessBook,
+    scratch: &mut Scratch,
+    steps: &mut Steps<L>,
+) -> Result<Completed, AllocError>
+    requires graph { IsGraphOf rules.now graph.now }
+    requires scratch { IsScratchOf rules.now scratch.old }
+    requires within { All (IsRowOf rules.now) rows.now }
+    requires roles { before.roles ≡ length rules.now.roles }
+    requires calls { before.calls < 4000000000 }
+    ensures completion { IfOk result (IsCompletionOf rules.now rows.now) }
+    ensures book { IfOk result (λ c. SetsLive before c.book.live c.book) }
+    ensures named { (names : List (List ℕ)) (these : List NamedRow) → StandFor rules.now names rows.now these → IfOk result (IsNamedCompletion rules.now names these) }
+    ensures scratch { scratch.new ≡ scratch.old }
+    ensures most { steps.new ≤ steps.old + length (individuals_of rows.now) }
+    ensures least { steps.old ≤ steps.new }
+{
+    let mut pointed = RoleSet::new();
+    let individuals = at_individuals(alloc, rules, rows, &mut pointed, scratch, steps)?;
+    let live = graph.live(&pointed);
+    let mut book = before;
+    book.set_live(&live);
+    let table = table_rows(alloc, rules, graph, rows, &individuals, &book)?;
+    Ok(Completed {
+        individuals,
+        book,
+        table,
+    })
 }

@@ -1,16 +1,16 @@
 //! How the rows of completed tables are found.
 ghost use Rattle.std.specs.Prelude.{◌≡◌, ◌↔◌, ◌<◌, ◌+◌, ℕ, List, All, IfOk, OnOk, Contains, false, true, length};
-ghost use Rattle.completion.specs.Completed.{IsFirstBook};
 ghost use Rattle.completion.specs.Edges.{IsTableRow};
 ghost use Rattle.completion.specs.Gathered.{AreConceptLists, AreListsOfNames, AreLiveWithin, AreRoleLists};
 ghost use Rattle.completion.specs.Individuals.{AreAtIndividuals};
-ghost use Rattle.completion.specs.Numbered.{IsRowOf};
+ghost use Rattle.completion.specs.Numbered.{IsLiveRole, IsRowOf};
 ghost use Rattle.completion.specs.Numbers.{AreNumberLists, AreOfRole};
 ghost use Rattle.completion.specs.TableRows.{table_of};
 ghost use Rattle.completion.specs.declared.gather.Property.{Property as AnyProperty};
 ghost use Rattle.completion.specs.declared.individuals.AtIndividual.{AtIndividual as AnyAt};
 ghost use Rattle.dl_base.specs.Tables.{TableRow};
 ghost use Rattle.dl_base.specs.Sets.{HasRole};
+ghost use Rattle.dl_base.specs.declared.concept.Role.{Role as AnyRole};
 ghost use Rattle.role_graph.specs.Graph.{IsGraphOf};
 ghost use Rattle.witness_book.specs.Witnesses.{generation_of};
 
@@ -42,8 +42,8 @@ pub(crate) fn table_rows(
     requires graph { IsGraphOf rules.now graph.now }
     requires within { All (IsRowOf rules.now) rows.now }
     requires individuals { AreAtIndividuals rules.now rows.now individuals.now.entries }
-    requires book { IsFirstBook rules.now rows.now book.now }
-    ensures { IfOk result (λ t. (row : TableRow) → Contains (table_of t) row ↔ IsTableRow rules.now rows.now row) }
+    requires live { (r : AnyRole) → HasRole book.now.live r ↔ IsLiveRole rules.now rows.now r }
+    ensures { IfOk result (λ t. (row : TableRow) → Contains (table_of t) row ↔ IsTableRow rules.now rows.now (generation_of book.now) row) }
 {
     let concepts = concept_lists(alloc, rules, graph, individuals, book)?;
     let roles = lists_of_names(alloc, rules, graph, individuals, book)?;

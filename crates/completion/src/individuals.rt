@@ -40,6 +40,7 @@ pub(crate) fn at_individuals<L: Ledger>(
     ensures pointed { OnOk result ((r : AnyRole) → HasRole pointed.new r ↔ (IsPointedTo rules.now rows.now r ⊎ HasRole pointed.old r)) }
     ensures scratch { scratch.new ≡ scratch.old }
     ensures most { steps.new ≤ steps.old + length (individuals_of rows.now) }
+    ensures least { steps.old ≤ steps.new }
 {
     let mut map = BTreeMap::new(alloc);
     let mut after = None;
@@ -71,8 +72,7 @@ fn at_individual<L: Ledger>(
     let held = held_by(rows, individual);
     let closed = rules.close(&held, scratch, steps);
     let mut points = RoleSet::new();
-    add_needed(&closed, &held, roles, &mut points);
-    add_needed(&closed, &held, roles, pointed);
+    add_needed(&closed, &held, roles, &mut points, pointed);
     AtIndividual { closed, points }
 }
 

@@ -1,12 +1,14 @@
 //! Small bases, by hand.
-ghost use Rattle.std.specs.Prelude.{◌≡◌, ◌<◌, ◌↔◌, IsTrue, All, IfOk, OnOk};
+ghost use Rattle.std.specs.Prelude.{◌≡◌, ◌<◌, ◌+◌, ◌↔◌, IsTrue, All, IfOk, OnOk, length};
 ghost use Rattle.completion.specs.Numbered.{IsRowOf};
+ghost use Rattle.horn_closure.specs.Closure.{IsScratchOf};
+ghost use Rattle.role_graph.specs.Graph.{IsGraphOf};
 
 use crate::Completed;
 use assert_tables::Assertions;
 use axiom_reader::read_axiom;
 use dl_base::{Basic, Elem, Ontology, Role, Row, Tables, Witness};
-use horn_closure::{Rules, Steps};
+use horn_closure::{Rules, Scratch, Steps};
 use role_graph::RoleGraph;
 use std::alloc::{AllocError, Global};
 use std::marker::Brand;
@@ -176,11 +178,8 @@ fn assert_inverse<L: Ledger>(
 
 const NAMED: [Elem; 3] = [Elem::Named(3), Elem::Named(7), Elem::Named(500_000_000)];
 
-fn shared(role: Role) -> Elem {
-    Elem::Shared(Witness {
-        role,
-        generation: 1,
-    })
+fn shared(role: Role, generation: u64) -> Elem {
+    Elem::Shared(Witness { role, generation })
 }
 
 /// The first three elements in the concept.
@@ -243,7 +242,7 @@ fn has_rows<T: Tables>(t: &T, role: u32, from: Elem, to: Elem) -> [bool; 3] {
 
 /// A chain of witnesses with a loop, behind two individuals. B is derived at a witness alone.
 fn assert_chain_rows<T: Tables>(rt: &impl Abort, t: &T) {
-    let (r, s) = (shared(R), shared(S));
+    let (r, s) = (shared(R, 1), shared(S, 1));
     assert_eq!(rt; members(t, 0), [Some(NAMED[1]), Some(NAMED[2]), None]);
     assert_eq!(rt; members(t, 1), [Some(r), None, None]);
     assert_eq!(rt; sources(t, R), [Some(NAMED[1]), Some(NAMED[2]), Some(s)]);
@@ -268,13 +267,101 @@ fn assert_named_rows<T: Tables>(rt: &impl Abort, t: &T) {
 
 /// The row to the witness of an inverse role is turned, and so leads from it.
 fn assert_inverse_rows<T: Tables>(rt: &impl Abort, t: &T) {
-    let back = shared(BACK);
+    let back = shared(BACK, 1);
     assert_eq!(rt;
         sources(t, BACK.inverted()),
         [Some(NAMED[0]), Some(back), None]
     );
     assert_eq!(rt; targets(t, BACK, NAMED[0]), [Some(back), None, None]);
     assert_eq!(rt; has_rows(t, 2, back, NAMED[0]), [true, false, false]);
+}
+
+/// What is completed of these rows behind what was completed before, which was renewed a few times at most.
+fn next<L: Ledger>(
+    before: &Completed,
+    alloc: Global,
+    rules: &Rules,
+    graph: &RoleGraph,
+    rows: &[Row],
+    scratch: &mut Scratch,
+    steps: &mut Steps<L>,
+) -> Result<Completed, AllocError>
+    requires graph { IsGraphOf rules.now graph.now }
+    requires scratch { IsScratchOf rules.now scratch.old }
+    requires roles { before.now.book.roles ≡ length rules.now.roles }
+    ensures scratch { IsScratchOf rules.now scratch.new }
+    ensures roles { IfOk result (λ c. c.book.roles ≡ length rules.now.roles) }
+{
+    if before.book().calls() >= 10 {
+        return Err(AllocError);
+    }
+    let base = base(alloc, rules, rows)?;
+    before.renew(alloc, rules, graph, &base, scratch, steps)
+}
+
+/// The generation of the role, where it is live.
+fn generation(c: &Completed, role: Role) -> Option<u64> {
+    match c.book().current(role) {
+        Some(witness) => Some(witness.generation),
+        None => None,
+    }
+}
+
+fn generations(c: &Completed) -> [Option<u64>; 4] {
+    [
+        generation(c, R),
+        generation(c, S),
+        generation(c, BACK),
+        generation(c, BACK.inverted()),
+    ]
+}
+
+fn assert_generations(rt: &impl Abort, c: &Completed, wanted: [Option<u64>; 4]) {
+    assert_eq!(rt; generations(c), wanted);
+}
+
+/// R stays live, dies and comes back, beside a role that becomes live later and one that never does.
+fn assert_lives<L: Ledger>(
+    rt: &impl Abort,
+    alloc: Global,
+    rules: &Rules,
+    graph: &RoleGraph,
+    first: &Completed,
+    scratch: &mut Scratch,
+    steps: &mut Steps<L>,
+) -> Result<(), Fail>
+    requires graph { IsGraphOf rules.now graph.now }
+    requires scratch { IsScratchOf rules.now scratch.old }
+    requires roles { first.now.book.roles ≡ length rules.now.roles }
+{
+    let rows = [concept(0, 7), concept(2, 3)];
+    let stays = next(first, alloc, rules, graph, &rows, scratch, steps)?;
+    assert_generations(rt, &stays, [Some(1), Some(1), Some(1), None]);
+    let dies = next(&stays, alloc, rules, graph, &rows[1..], scratch, steps)?;
+    assert_generations(rt, &dies, [None, None, Some(1), None]);
+    let back = next(&dies, alloc, rules, graph, &rows[..1], scratch, steps)?;
+    assert_generations(rt, &back, [Some(2), Some(2), None, None]);
+    assert_back_rows(rt, &back);
+    Ok(())
+}
+
+/// The witness of the role that came back is another one.
+fn assert_back_rows<T: Tables>(rt: &impl Abort, t: &T) {
+    assert_eq!(rt; members(t, 1), [Some(shared(R, 2)), None, None]);
+}
+
+fn assert_renewals<L: Ledger>(
+    rt: &impl Abort,
+    alloc: Global,
+    steps: &mut Steps<L>,
+) -> Result<(), Fail> {
+    let rules = Rules::new(alloc, &ontology(alloc)?)?;
+    let mut scratch = rules.scratch(alloc)?;
+    let graph = RoleGraph::new(alloc, &rules, &mut scratch, steps)?;
+    let base = base(alloc, &rules, &[concept(0, 7)])?;
+    let first = Completed::afresh(alloc, &rules, &graph, &base, &mut scratch, steps)?;
+    assert_generations(rt, &first, [Some(1), Some(1), None, None]);
+    assert_lives(rt, alloc, &rules, &graph, &first, &mut scratch, steps)
 }
 
 fn assert_bases<L: Ledger>(rt: &impl Abort, alloc: Global, blank: Blank) -> Result<(), Fail>
@@ -285,7 +372,8 @@ fn assert_bases<L: Ledger>(rt: &impl Abort, alloc: Global, blank: Blank) -> Resu
     let mut steps: Steps<L> = Steps::new(blank);
     assert_chain(rt, alloc, &mut steps)?;
     assert_named(rt, alloc, &mut steps)?;
-    assert_inverse(rt, alloc, &mut steps)
+    assert_inverse(rt, alloc, &mut steps)?;
+    assert_renewals(rt, alloc, &mut steps)
 }
 
 #[test]

@@ -47,6 +47,18 @@ impl WitnessBook {
         })
     }
 
+    /// The same book once more.
+    pub fn copy(&self, alloc: Global) -> Result<WitnessBook, AllocError>
+        ensures { IfOk result (λ b. b ≡ self.now) }
+    {
+        Ok(WitnessBook {
+            roles: self.roles,
+            calls: self.calls,
+            live: self.live,
+            generations: Vec::from_slice(alloc, self.generations.as_slice())?,
+        })
+    }
+
     /// Makes these the live roles, and raises by one the generation of each that was not live before. It takes no memory,
     /// nor do the calls below.
     pub fn set_live(&mut self, live: &RoleSet)

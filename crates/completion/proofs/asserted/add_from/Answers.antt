@@ -1,5 +1,5 @@
 use Rattle.completion.proofs.AssertedLemmas.{added_all, added_more, added_none}
-use Rattle.completion.proofs.HeldLemmas.{fewer_left}
+use Rattle.assert_tables.proofs.LeftLemmas.{fewer_left}
 use Rattle.completion.proofs.asserted.add_from.Goals as goal
 
 pub loop-row-init : goal.loop-row-init

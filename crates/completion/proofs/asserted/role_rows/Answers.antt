@@ -1,5 +1,6 @@
 use Rattle.std.proofs.Common.{None, subst, sym}
-use Rattle.completion.proofs.AssertedLemmas.{TakenUpTo, fewer_individuals, taken_all, taken_more, taken_none}
+use Rattle.assert_tables.proofs.LeftLemmas.{fewer_individuals}
+use Rattle.completion.proofs.AssertedLemmas.{TakenUpTo, taken_all, taken_more, taken_none}
 use Rattle.completion.proofs.asserted.role_rows.Goals as goal
 
 pub loop-individual-init : goal.loop-individual-init

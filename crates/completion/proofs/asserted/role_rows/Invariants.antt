@@ -1,5 +1,6 @@
 use Rattle.assert_tables.specs.Rows.{individuals_of}
-use Rattle.completion.proofs.AssertedLemmas.{TakenUpTo, numbers_left}
+use Rattle.assert_tables.proofs.LeftLemmas.{numbers_left}
+use Rattle.completion.proofs.AssertedLemmas.{TakenUpTo}
 use Rattle.completion.proofs.asserted.role_rows.Given as goal
 
 abbrev pub invariant-loop-individual : goal.invariant-loop-individual

@@ -1,4 +1,5 @@
-use Rattle.completion.proofs.HeldLemmas.{fewer_left, held_all, held_more, held_none}
+use Rattle.assert_tables.proofs.LeftLemmas.{fewer_left}
+use Rattle.completion.proofs.HeldLemmas.{held_all, held_more, held_none}
 use Rattle.completion.specs.Numbered.{IsRowWithin}
 use Rattle.std.proofs.lemmas.List.Elements.{All-contains}
 use Rattle.completion.proofs.held.held_by.Goals as goal

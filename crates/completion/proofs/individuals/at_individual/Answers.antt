@@ -13,16 +13,16 @@ returns-clause-at g c =
     let derived = c.close-closed.result.derived in
     let held = c.held_by-held.result in
     let empty = c.new-points.result in
-    let points = c.add_needed.new.set in
+    let points = c.add_needed.new.one in
     is_at_individual c.args.rules.now c.args.rows.now c.roles.ensures.within c.requires.within c.args.individual held c.close-closed.result c.held_by-held.ensures c.close-closed.ensures.closure
     empty points c.new-points.ensures
-    (subst (λ (names : List (List ℕ)). (r : Role) → HasRole points r ↔ (IsNeededBelow derived held (length names) r ⊎ HasRole empty r)) c.roles.ensures.names c.add_needed.ensures)
+    (subst (λ (names : List (List ℕ)). (r : Role) → HasRole points r ↔ (IsNeededBelow derived held (length names) r ⊎ HasRole empty r)) c.roles.ensures.names c.add_needed.ensures.one)
 
 pub returns-clause-pointed : goal.returns-clause-pointed
 returns-clause-pointed g c =
     let derived = c.close-closed.result.derived in
     let held = c.held_by-held.result in
-    let new = c.add_needed-2.new.set in
+    let new = c.add_needed.new.other in
     let old = c.args.pointed.now in
     added_points c.args.rules.now c.args.rows.now c.roles.ensures.within c.requires.within c.args.individual held c.close-closed.result c.held_by-held.ensures c.close-closed.ensures.closure old new
-    (subst (λ (names : List (List ℕ)). (r : Role) → HasRole new r ↔ (IsNeededBelow derived held (length names) r ⊎ HasRole old r)) c.roles.ensures.names c.add_needed-2.ensures)
+    (subst (λ (names : List (List ℕ)). (r : Role) → HasRole new r ↔ (IsNeededBelow derived held (length names) r ⊎ HasRole old r)) c.roles.ensures.names c.add_needed.ensures.other)

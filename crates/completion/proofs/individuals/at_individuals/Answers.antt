@@ -6,6 +6,7 @@ use Rattle.completion.proofs.individuals.at_individuals.Goals as goal
 
 pub loop-individual-init : goal.loop-individual-init
 loop-individual-init g c = record {
+  least = omega arith;
   gone = gone_none c.args.rows.now c.args.steps.now;
   kept = kept_none c.args.rules.now c.args.rows.now c.new-map.result.entries c.new-map.ensures.empty;
   pointed = pointed_none c.args.rules.now c.args.rows.now c.args.pointed.now;
@@ -25,6 +26,7 @@ loop-individual-smaller g c =
 
 pub loop-individual-preserved : goal.loop-individual-preserved
 loop-individual-preserved g c = record {
+  least = (let cost = c.at_individual-at.ensures.cost in let least = c.loop-individual.invariant.least in omega (arith, cost, least));
   gone = more c.args.rows.now c.loop-individual.after c.in-Some.individual c.args.steps.now c.loop-individual.steps c.at_individual-at.new.steps c.in-Some.ensures c.loop-individual.invariant.gone c.at_individual-at.ensures.cost;
   kept = kept_more c.loop-individual.map.entries c.insert.new.self.entries c.in-Some.individual c.at_individual-at.result c.in_ok-insert.ensures.updates.0
       c.args.rules.now c.args.rows.now c.loop-individual.after c.in-Some.ensures c.at_individual-at.ensures.at c.loop-individual.invariant.kept;
