@@ -14,6 +14,7 @@ use Rattle.dl_base.specs.declared.row.NamedRow.{NamedRow}
 use Rattle.dl_base.specs.declared.row.NamedRow.TheVariants as named
 use Rattle.dl_base.specs.declared.row.Row.{Row}
 use Rattle.dl_base.specs.declared.row.Row.TheVariants as row
+use Rattle.dl_base.proofs.IndividualLemmas.{individuals, individuals_are}
 use Rattle.dl_base.proofs.InOrder.{from_order, in_order, in_order_rises, into_order, rising_distinct}
 use Rattle.dl_base.proofs.NumberedRowLemmas.{no_more_than, one_name, one_number}
 use Rattle.dl_base.proofs.PlaceLemmas.{flat_part, flat_there, one_place, some_same}
@@ -24,31 +25,6 @@ use Rattle.base_store.specs.Legal.{IsCrowded}
 use Rattle.base_store.specs.Loaded.{HasRows}
 use Rattle.base_store.specs.Loading.{AreFew}
 use Rattle.base_store.proofs.AfterChanges.{transactions_once, transactions_rise}
-
--- ---- the individuals of rows by name, in order
-
-in_row : (r : NamedRow) (a : List ℕ) → Contains (names_in r) a → Names a r
-in_row (named.Concept c x) a there = elim (contains_cases x [] a there) [ inl e ↦ e | inr d ↦ absurd (omega (arith, d.1)) ]
-in_row (named.Role p x y) a there = elim (contains_cases x (y ∷ []) a there) [
-  | inl e ↦ inl e
-  | inr d ↦ elim (contains_cases y [] a d) [ inl e ↦ inr e | inr f ↦ absurd (omega (arith, f.1)) ]
-]
-
-of_row : (r : NamedRow) (a : List ℕ) → Names a r → Contains (names_in r) a
-of_row (named.Concept c x) a e = subst (Contains (x ∷ [])) (sym e) (contains_first x [])
-of_row (named.Role p x y) a (inl e) = subst (Contains (x ∷ y ∷ [])) (sym e) (contains_first x (y ∷ []))
-of_row (named.Role p x y) a (inr e) = contains_later x (y ∷ []) a (subst (Contains (y ∷ [])) (sym e) (contains_first y []))
-
-individuals : List NamedRow → List (List ℕ)
-individuals rows = in_order name_cmp name_total name_same (flat_map names_in rows)
-
-individuals_are : (rows : List NamedRow) → AreIndividuals rows (individuals rows)
-unfolding individuals
-individuals_are rows = record {
-  rising = in_order_rises name_cmp name_total name_same (flat_map names_in rows);
-  only = λ a c. let found = flat_part names_in rows a (from_order name_cmp name_total name_same (flat_map names_in rows) a c) in (found.0, found.1, in_row found.0 a found.2);
-  each = λ a i. into_order name_cmp name_total name_same (flat_map names_in rows) a (flat_there names_in rows i.0 a i.1 (of_row i.0 a i.2));
-}
 
 -- ---- by name and by number
 
@@ -70,13 +46,13 @@ name_in o names (named.Concept c x) (row.Role q m l) k e which = absurd e
 name_in o names (named.Role p x y) (row.Concept d m) k e which = absurd e
 
 module _ (o : Terminology) (names : List (List ℕ)) (keys : List Row) (these : List NamedRow) (t : StandFor o names keys these) where
-  rows_few : AreRows these → length these ≤ length keys
+  pub rows_few : AreRows these → length these ≤ length keys
   rows_few rises = no_more_than (NumbersRow o names) these keys (rising_distinct row_cmp row_total row_same these rises) (record {
     partner = t.each;
     once = one_name o names;
   })
 
-  keys_few : IsTerminology o → AreRisingRows keys → length keys ≤ length these
+  pub keys_few : IsTerminology o → AreRisingRows keys → length keys ≤ length these
   keys_few is rises = no_more_than (λ n r. NumbersRow o names r n) keys these (rising_distinct numbered_row_cmp numbered_total numbered_same keys rises) (record {
     partner = t.only;
     once = λ n m r. one_number o names r n m is t.distinct;

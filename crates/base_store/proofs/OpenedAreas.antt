@@ -4,12 +4,14 @@ use Rattle.std.specs.Prelude.{IfErr, IsErrAnd, Result, Ok, Err}
 use Rattle.std.proofs.lemmas.Bool.{cases_order}
 use Rattle.host_io.specs.Disk.{Disk, IsImage}
 use Rattle.host_io.specs.Moments.{Left, LeavesOnly}
-use Rattle.host_io.proofs.Moments.{joined}
+use Rattle.host_io.proofs.Moments.{joined, weaker}
 use Rattle.gated_log.specs.Entries.{IsFresh, Stands, within}
 use Rattle.gated_log.specs.Opening.{Opens}
 use Rattle.gated_log.specs.State.{LogState}
-use Rattle.gated_log.specs.Stops.{AtFirst, AtOpening}
+use Rattle.gated_log.specs.Stops.{AtFirst, AtOpening, IsOpening, LeavesImages, LeavesThen, WhileOpened}
 use Rattle.gated_log.proofs.Fresh.{nothing_stands}
+use Rattle.gated_log.proofs.Running.{was_ok}
+use Rattle.gated_log.proofs.Since.{came_on}
 use Rattle.base_store.specs.History.{History, Empty, transaction_count, used}
 use Rattle.base_store.specs.Area.{HoldsHistory, IsDamaged, IsDamagedBehind, KeepsHistory, area_limit}
 use Rattle.base_store.specs.Loaded.{FaultSays, HasNumbersOf, LoadsFrom}
@@ -47,6 +49,9 @@ module _ (old new : List ℕ) (opens : Opens (within area_limit) old new) where
     | inr other ↦ inr (subst (λ (area : List ℕ). HoldsHistory area h) (opens.other other) holds)
   ]
 
+  pub is_opening : IsOpening (within area_limit) old new
+  is_opening = elim (fresh_or_not old) [ inl fresh ↦ inr (fresh, inr (nothing fresh)) | inr other ↦ inl (opens.other other) ]
+
   pub damaged_before : (at : ℕ) → IsDamagedBehind new at → IsDamaged old at
   damaged_before at damage = elim (fresh_or_not old) [
     | inl fresh ↦ absurd (keeps_or_is_damaged new Empty at (inr (held fresh)) (inr damage))
@@ -71,6 +76,18 @@ module _ {H : Type 0} (printed : H → Option (List ℕ)) (clock : H → ℕ) (m
     second = subst (IsImage d.second) (sym (a.second ∙ second)) reads.1;
     output = λ before is. a.output before (shown ∙ is);
   })
+
+  pub read_behind : {T E U F : Type 0} (first : Result T E) (v : T) (result : Result U F) (old mid new : H) (d e : Disk) → first ≡ Ok v → Opens (within area_limit) d.first.reads e.first.reads → e.second.reads ≡ d.second.reads
+      → printed mid ≡ printed old → LeavesThen clock might (LeavesImages d (printed old)) (WhileOpened (within area_limit) d (printed old)) first old mid
+      → LeavesOnly clock might mid new (AtFirst e (printed mid) (λ c. c ≡ e.first.reads))
+      → LeavesThen clock might (LeavesImages d (printed old)) (WhileOpened (within area_limit) d (printed old)) result old new
+  read_behind first v result old mid new d e was opens second shown opening reading = came_on clock might _ (WhileOpened (within area_limit) d (printed old)) result old mid new opening.moments
+      (was_ok first v was opening.synced)
+      (weaker clock might mid new _ _ reading (λ l a. record {
+        first = subst (IsOpening (within area_limit) d.first.reads) (sym a.first) (is_opening d.first.reads e.first.reads opens);
+        second = a.second ∙ second;
+        output = λ before is. a.output before (shown ∙ is);
+      }))
 
 -- ---- what the store has
 

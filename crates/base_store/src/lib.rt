@@ -12,7 +12,9 @@ mod store;
 #[cfg(test)]
 mod untold;
 
+pub use listing::listed;
 pub use load::{LoadFault, Loaded};
+pub use loading::place_of;
 pub use store::{KeepFault, Store};
 
 #[cfg(test)]

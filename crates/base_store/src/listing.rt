@@ -7,7 +7,7 @@ use dl_base::{Row, RowList};
 use std::alloc::{AllocError, Global};
 
 /// The rows as a list, each once.
-pub(crate) fn listed(alloc: Global, rows: &Assertions) -> Result<RowList, AllocError>
+pub fn listed(alloc: Global, rows: &Assertions) -> Result<RowList, AllocError>
     ensures { IfOk result (IsListOf rows.now) }
 {
     let mut list = RowList::new(alloc);

@@ -6,7 +6,7 @@ ghost use Rattle.host_io.specs.Disk.{Disk, IsSettled, settled};
 ghost use Rattle.host_io.specs.Moments.{LeavesOnly};
 ghost use Rattle.gated_log.specs.Entries.{IsFresh, within};
 ghost use Rattle.gated_log.specs.State.{IsBegun};
-ghost use Rattle.gated_log.specs.Stops.{AtFirst, AtOpening};
+ghost use Rattle.gated_log.specs.Stops.{AtFirst, AtOpening, IsOpening, LeavesImages, LeavesThen, WhileOpened};
 ghost use Rattle.base_store.specs.Area.{IsDamaged, IsDamagedBehind};
 ghost use Rattle.base_store.specs.Loaded.{FaultSays, HasNumbersOf, IsInRange, LoadsFrom, load_fault};
 ghost use Rattle.base_store.specs.Loading.{HasAllOf, HasRead, HasReadAll};
@@ -80,7 +80,17 @@ impl Store {
         ensures ok { IfOk result (λ r. ForSome (H.disk host.old) (λ d. (e : Disk) × (H.disk host.new ≡ Some e) × (e.second.reads ≡ d.second.reads)
             × LoadsFrom d.first.reads e r.0 r.1)) }
         ensures damaged { IfErr result (λ f. ForSome (H.disk host.old) (λ d. FaultSays (IsDamaged d.first.reads) f)) }
+
+        // Over every host damage is that of the first area.
+        ensures damaged_area { IfErr result (FaultSays (λ at. Unit {0})) }
         ensures moments { ForSome (H.disk host.old) (λ d. LeavesOnly H.clock H.might host.old host.new (AtOpening (within 1073741824) d (H.printed host.old))) }
+
+        // Until the sync a stop leaves an image of each area, and from then on what opening the first one leaves.
+        ensures opening { ForSome (H.disk host.old) (λ d. LeavesThen H.clock H.might (LeavesImages d (H.printed host.old)) (WhileOpened (within 1073741824) d (H.printed host.old)) result host.old host.new) }
+
+        // Whatever is answered, the second area reads as it did, and so does the first one, unless it was fresh.
+        ensures reads { ForSome (H.disk host.old) (λ d. (e : Disk) × (H.disk host.new ≡ Some e) × (e.second.reads ≡ d.second.reads)
+            × IsOpening (within 1073741824) d.first.reads e.first.reads) }
 
         // Nothing is written into an area that isn't fresh, whatever is answered.
         ensures unwritten { ForSome (H.disk host.old) (λ d. (IsFresh d.first.reads → ⊥) → (H.disk host.new ≡ Some d) ⊎ (H.disk host.new ≡ Some (settled d))) }
@@ -88,6 +98,7 @@ impl Store {
         ensures printed { H.printed host.new ≡ H.printed host.old }
         ensures cause { IsErrAnd result (λ f. f ≡ LoadFault.DiskFault) → Rose (H.disk_faults host.old) (H.disk_faults host.new) }
         ensures stays { IsErrAnd result (λ f. f ≡ LoadFault.DiskFault) ⊎ (H.disk_faults host.new ≡ H.disk_faults host.old) }
+        ensures later { H.disk_faults host.old ≤ H.disk_faults host.new }
         ensures other { H.print_faults host.new ≡ H.print_faults host.old }
     {
         let reader = Reader::load(host, AREA_LIMIT)?;
@@ -128,11 +139,13 @@ fn read_all<H: Host>(
 
     ensures all { IfOk result (λ r. HasReadAll (H.disk host.new) r.0 r.1) }
     ensures damaged { IfErr result (λ f. ForSome (H.disk host.old) (λ d. FaultSays (IsDamagedBehind d.first.reads) f)) }
+    ensures damaged_area { IfErr result (FaultSays (λ at. Unit {0})) }
     ensures moments { ForSome (H.disk host.old) (λ d. LeavesOnly H.clock H.might host.old host.new (AtFirst d (H.printed host.old) (λ c. c ≡ d.first.reads))) }
     ensures disk { H.disk host.new ≡ H.disk host.old }
     ensures printed { H.printed host.new ≡ H.printed host.old }
     ensures cause { IsErrAnd result (λ f. f ≡ LoadFault.DiskFault) → Rose (H.disk_faults host.old) (H.disk_faults host.new) }
     ensures stays { IsErrAnd result (λ f. f ≡ LoadFault.DiskFault) ⊎ (H.disk_faults host.new ≡ H.disk_faults host.old) }
+    ensures later { H.disk_faults host.old ≤ H.disk_faults host.new }
     ensures other { H.print_faults host.new ≡ H.print_faults host.old }
 {
     let mut reader = reader;
@@ -162,11 +175,13 @@ fn read_each<H: Host>(
 
     ensures all { OnOk result ((reader.new.finished ≡ true) × HasReadAll (H.disk host.new) (record { end = reader.new.gate; limit = reader.new.limit }) loading.new) }
     ensures damaged { IfErr result (λ f. ForSome (H.disk host.old) (λ d. FaultSays (IsDamagedBehind d.first.reads) f)) }
+    ensures damaged_area { IfErr result (FaultSays (λ at. Unit {0})) }
     ensures moments { ForSome (H.disk host.old) (λ d. LeavesOnly H.clock H.might host.old host.new (AtFirst d (H.printed host.old) (λ c. c ≡ d.first.reads))) }
     ensures disk { H.disk host.new ≡ H.disk host.old }
     ensures printed { H.printed host.new ≡ H.printed host.old }
     ensures cause { IsErrAnd result (λ f. f ≡ LoadFault.DiskFault) → Rose (H.disk_faults host.old) (H.disk_faults host.new) }
     ensures stays { IsErrAnd result (λ f. f ≡ LoadFault.DiskFault) ⊎ (H.disk_faults host.new ≡ H.disk_faults host.old) }
+    ensures later { H.disk_faults host.old ≤ H.disk_faults host.new }
     ensures other { H.print_faults host.new ≡ H.print_faults host.old }
 {
     while read_next(alloc, host, reader, payload, loading)? {}
@@ -188,11 +203,13 @@ fn read_next<H: Host>(
         ((reader.old.gate < reader.new.gate) × HasRead (H.disk host.new) reader.new loading.new)
         ((reader.new.finished ≡ true) × HasReadAll (H.disk host.new) (record { end = reader.new.gate; limit = reader.new.limit }) loading.new)) }
     ensures damaged { IfErr result (λ f. ForSome (H.disk host.old) (λ d. FaultSays (IsDamagedBehind d.first.reads) f)) }
+    ensures damaged_area { IfErr result (FaultSays (λ at. Unit {0})) }
     ensures moments { ForSome (H.disk host.old) (λ d. LeavesOnly H.clock H.might host.old host.new (AtFirst d (H.printed host.old) (λ c. c ≡ d.first.reads))) }
     ensures disk { H.disk host.new ≡ H.disk host.old }
     ensures printed { H.printed host.new ≡ H.printed host.old }
     ensures cause { IsErrAnd result (λ f. f ≡ LoadFault.DiskFault) → Rose (H.disk_faults host.old) (H.disk_faults host.new) }
     ensures stays { IsErrAnd result (λ f. f ≡ LoadFault.DiskFault) ⊎ (H.disk_faults host.new ≡ H.disk_faults host.old) }
+    ensures later { H.disk_faults host.old ≤ H.disk_faults host.new }
     ensures other { H.print_faults host.new ≡ H.print_faults host.old }
 {
     match reader.next(host, payload)? {

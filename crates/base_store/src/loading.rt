@@ -195,7 +195,7 @@ fn make(
 }
 
 /// The place of the row's concept or role in the ontology.
-fn place_of(ontology: &Ontology, row: &NamedRow) -> Option<u32>
+pub fn place_of(ontology: &Ontology, row: &NamedRow) -> Option<u32>
     ensures is { MatchOption result (IsNamedBy ontology.now row.now → ⊥) (λ place. IsPlaceOf ontology.now row.now place) }
     ensures within { IsTerminology ontology.now }
 {

@@ -84,6 +84,7 @@ fn add_entry<H: Host>(log: Log, host: &mut H, kind: u8, payload: &[u8]) -> Resul
     ensures printed { H.printed host.new ≡ H.printed host.old }
     ensures cause { OnErr result (Rose (H.disk_faults host.old) (H.disk_faults host.new)) }
     ensures stays { OnOk result (H.disk_faults host.new ≡ H.disk_faults host.old) }
+    ensures later { H.disk_faults host.old ≤ H.disk_faults host.new }
     ensures other { H.print_faults host.new ≡ H.print_faults host.old }
 {
     match log.append(host, kind, payload) {
@@ -102,6 +103,13 @@ impl Store {
         ensures { result ≡ record { used = log.end; transactions = transactions } }
     {
         Store { log, transactions }
+    }
+
+    /// How many transactions its history has. It takes no memory.
+    pub fn transactions(&self) -> u64
+        ensures { result ≡ self.now.transactions }
+    {
+        self.transactions
     }
 
     /// Whether an entry with a payload of so many bytes has room. It takes no memory.
@@ -143,6 +151,7 @@ impl Store {
         ensures printed { H.printed host.new ≡ H.printed host.old }
         ensures cause { IsErrAnd result (λ e. e ≡ KeepFault.DiskFault) → Rose (H.disk_faults host.old) (H.disk_faults host.new) }
         ensures stays { IsErrAnd result (λ e. e ≡ KeepFault.DiskFault) ⊎ (H.disk_faults host.new ≡ H.disk_faults host.old) }
+        ensures later { H.disk_faults host.old ≤ H.disk_faults host.new }
         ensures other { H.print_faults host.new ≡ H.print_faults host.old }
     {
         let size = changes_len(changes);
@@ -187,6 +196,7 @@ impl Store {
         ensures printed { H.printed host.new ≡ H.printed host.old }
         ensures cause { IsErrAnd result (λ e. e ≡ KeepFault.DiskFault) → Rose (H.disk_faults host.old) (H.disk_faults host.new) }
         ensures stays { IsErrAnd result (λ e. e ≡ KeepFault.DiskFault) ⊎ (H.disk_faults host.new ≡ H.disk_faults host.old) }
+        ensures later { H.disk_faults host.old ≤ H.disk_faults host.new }
         ensures other { H.print_faults host.new ≡ H.print_faults host.old }
     {
         let size = ontology_len(o);

@@ -8,6 +8,7 @@ pub mod Behind
 pub mod Joined
 pub mod Gates
 pub mod Fresh
+pub mod Since
 pub mod Opened
 pub mod LawLemmas
 pub mod Every

@@ -26,9 +26,3 @@ begun_on b gate kind len area buffer begun on =
 -- the entries are all, and the log is ready for the next
 pub ready_at : (b : Bounds) (gate : ℕ) (area : List ℕ) → IsBegun b gate area → IsAll b gate area → IsClosedAt b gate area
 ready_at b gate area begun all = (begun.0, all begun.0 begun.1 begun.2 begun.3, begun.3)
-
--- behind one more entry the log is ready again
-pub ready_more : (b : Bounds) (end : ℕ) (entry : Entry) (old new : List ℕ) → IsClosedAt b end old → Appended b end entry old new → IsClosedAt b (end + 6 + length entry.payload) new
-ready_more b end entry old new ready more =
-    let m = more ready.0 ready.1 ready.2 in
-    (ready.0 ++ entry ∷ [], m.0, m.1)

@@ -2,7 +2,7 @@
 ghost use Rattle.std.specs.Prelude.{◌≡◌, ◌≢◌, ◌≤◌, ℕ, None, Some, slice_index, length, OnOk};
 ghost use Rattle.std.specs.Option.{ForSome};
 ghost use Rattle.host_io.specs.Causes.{HasCause};
-ghost use Rattle.host_io.specs.Disk.{IsSettled, at_rest};
+ghost use Rattle.host_io.specs.Disk.{Disk, IsSettled, at_rest};
 ghost use Rattle.host_io.specs.Moments.{LeavesOnly};
 ghost use Rattle.gated_log.specs.Entries.{Bounds};
 ghost use Rattle.gated_log.specs.Opening.{initialised};
@@ -18,6 +18,7 @@ pub(crate) fn initialise_shut<H: Host>(host: &mut H) -> Result<(), Failed>
 
     ensures ok { OnOk result (ForSome (H.disk host.old) (λ d. H.disk host.new ≡ Some (record { first = at_rest (initialised d.first.reads); second = d.second }))) }
     ensures moments { (b : Bounds) → ForSome (H.disk host.old) (λ d. LeavesOnly H.clock H.might host.old host.new (AtFirst d (H.printed host.old) (HoldsNothing b))) }
+    ensures told { ForSome (H.disk host.old) (λ d. (e : Disk) × (H.disk host.new ≡ Some e)) }
     ensures untold { H.disk host.old ≡ None → H.disk host.new ≡ None }
     ensures printed { H.printed host.new ≡ H.printed host.old }
     ensures cause { HasCause (H.disk_faults host.old) (H.disk_faults host.new) result }
@@ -33,6 +34,7 @@ pub(crate) fn initialise_short<H: Host>(host: &mut H) -> Result<(), Failed>
 
     ensures ok { OnOk result (ForSome (H.disk host.old) (λ d. H.disk host.new ≡ Some (record { first = at_rest (initialised d.first.reads); second = d.second }))) }
     ensures moments { (b : Bounds) → ForSome (H.disk host.old) (λ d. LeavesOnly H.clock H.might host.old host.new (AtFirst d (H.printed host.old) (HoldsNothing b))) }
+    ensures told { ForSome (H.disk host.old) (λ d. (e : Disk) × (H.disk host.new ≡ Some e)) }
     ensures untold { H.disk host.old ≡ None → H.disk host.new ≡ None }
     ensures printed { H.printed host.new ≡ H.printed host.old }
     ensures cause { HasCause (H.disk_faults host.old) (H.disk_faults host.new) result }

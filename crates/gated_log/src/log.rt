@@ -119,6 +119,7 @@ impl Log {
         ensures printed { H.printed host.new ≡ H.printed host.old }
         ensures cause { IsErrAnd result (λ e. e ≡ AppendFault.DiskFault) → Rose (H.disk_faults host.old) (H.disk_faults host.new) }
         ensures stays { IsErrAnd result (λ e. e ≡ AppendFault.DiskFault) ⊎ (H.disk_faults host.new ≡ H.disk_faults host.old) }
+        ensures later { H.disk_faults host.old ≤ H.disk_faults host.new }
         ensures other { H.print_faults host.new ≡ H.print_faults host.old }
     {
         let size = 6 + payload.len() as u64;

@@ -10,7 +10,7 @@ ghost use Rattle.gated_log.specs.Front.{HasPayload};
 ghost use Rattle.gated_log.specs.Opening.{Opens};
 ghost use Rattle.gated_log.specs.Reading.{AnswersNext, HasRead, Moves};
 ghost use Rattle.gated_log.specs.State.{IsBegun, IsClosedAt, ReaderState};
-ghost use Rattle.gated_log.specs.Stops.{AtFirst, AtOpening, HoldsNothing};
+ghost use Rattle.gated_log.specs.Stops.{AtFirst, AtOpening, IsOpening, LeavesImages, LeavesThen, WhileOpened};
 
 use crate::Log;
 use crate::front::{AtGate, Front, at_gate, front_of};
@@ -71,13 +71,16 @@ fn open_settled<H: Host>(host: &mut H) -> Result<(), LogFault>
 
     ensures ok { (b : Bounds) → IfOk result (λ _. ForSome (H.disk host.old) (λ d. (e : Disk) × (H.disk host.new ≡ Some e) × IsSettled e × (e.second ≡ d.second) × Opens b d.first.reads e.first.reads)) }
     ensures damaged { IfErr result (λ f. ForSome (H.disk host.old) (λ d. FaultSays (OffendsAtTop d.first.reads) f)) }
+    ensures damaged_place { IfErr result (FaultSays (λ at. at ≡ 0)) }
     ensures moments { (b : Bounds) → ForSome (H.disk host.old) (λ d. LeavesOnly H.clock H.might host.old host.new
-        (AtFirst d (H.printed host.old) (λ c. (c ≡ d.first.reads) ⊎ (IsFresh d.first.reads × HoldsNothing b c)))) }
+        (AtFirst d (H.printed host.old) (IsOpening b d.first.reads))) }
     ensures unwritten { ForSome (H.disk host.old) (λ d. (IsFresh d.first.reads → ⊥) → H.disk host.new ≡ H.disk host.old) }
+    ensures told { ForSome (H.disk host.old) (λ d. (e : Disk) × (H.disk host.new ≡ Some e)) }
     ensures untold { H.disk host.old ≡ None → H.disk host.new ≡ None }
     ensures printed { H.printed host.new ≡ H.printed host.old }
     ensures cause { IsErrAnd result (λ f. f ≡ LogFault.DiskFault) → Rose (H.disk_faults host.old) (H.disk_faults host.new) }
     ensures stays { IsErrAnd result (λ f. f ≡ LogFault.DiskFault) ⊎ (H.disk_faults host.new ≡ H.disk_faults host.old) }
+    ensures later { H.disk_faults host.old ≤ H.disk_faults host.new }
     ensures other { H.print_faults host.new ≡ H.print_faults host.old }
 {
     let mut front = [0; 17];
@@ -141,6 +144,7 @@ fn read_entry<H: Host>(
     ensures printed { H.printed host.new ≡ H.printed host.old }
     ensures cause { IsErrAnd result (λ f. f ≡ LogFault.DiskFault) → Rose (H.disk_faults host.old) (H.disk_faults host.new) }
     ensures stays { IsErrAnd result (λ f. f ≡ LogFault.DiskFault) ⊎ (H.disk_faults host.new ≡ H.disk_faults host.old) }
+    ensures later { H.disk_faults host.old ≤ H.disk_faults host.new }
     ensures other { H.print_faults host.new ≡ H.print_faults host.old }
 {
     let mut front = [0; 6];
@@ -168,7 +172,15 @@ impl Reader {
         ensures ok { IfOk result (λ _. ForSome (H.disk host.old) (λ d. (e : Disk) × (H.disk host.new ≡ Some e) × IsSettled e
             × (e.second.reads ≡ d.second.reads) × Opens (within limit) d.first.reads e.first.reads)) }
         ensures damaged { IfErr result (λ f. ForSome (H.disk host.old) (λ d. FaultSays (OffendsAtTop d.first.reads) f)) }
+        ensures damaged_place { IfErr result (FaultSays (λ at. at ≡ 0)) }
         ensures moments { ForSome (H.disk host.old) (λ d. LeavesOnly H.clock H.might host.old host.new (AtOpening (within limit) d (H.printed host.old))) }
+
+        // Until the sync a stop leaves an image of each area, and from then on what opening the first one leaves.
+        ensures opening { ForSome (H.disk host.old) (λ d. LeavesThen H.clock H.might (LeavesImages d (H.printed host.old)) (WhileOpened (within limit) d (H.printed host.old)) result host.old host.new) }
+
+        // Whatever is answered, the second area reads as it did, and so does the first one, unless it was fresh.
+        ensures reads { ForSome (H.disk host.old) (λ d. (e : Disk) × (H.disk host.new ≡ Some e) × (e.second.reads ≡ d.second.reads)
+            × IsOpening (within limit) d.first.reads e.first.reads) }
 
         // Nothing is written into an area that isn't fresh, whatever is answered.
         ensures unwritten { ForSome (H.disk host.old) (λ d. (IsFresh d.first.reads → ⊥) → (H.disk host.new ≡ Some d) ⊎ (H.disk host.new ≡ Some (settled d))) }
@@ -176,6 +188,7 @@ impl Reader {
         ensures printed { H.printed host.new ≡ H.printed host.old }
         ensures cause { IsErrAnd result (λ f. f ≡ LogFault.DiskFault) → Rose (H.disk_faults host.old) (H.disk_faults host.new) }
         ensures stays { IsErrAnd result (λ f. f ≡ LogFault.DiskFault) ⊎ (H.disk_faults host.new ≡ H.disk_faults host.old) }
+        ensures later { H.disk_faults host.old ≤ H.disk_faults host.new }
         ensures other { H.print_faults host.new ≡ H.print_faults host.old }
     {
         host.sync()?;
@@ -203,6 +216,7 @@ impl Reader {
         ensures printed { H.printed host.new ≡ H.printed host.old }
         ensures cause { IsErrAnd result (λ f. f ≡ LogFault.DiskFault) → Rose (H.disk_faults host.old) (H.disk_faults host.new) }
         ensures stays { IsErrAnd result (λ f. f ≡ LogFault.DiskFault) ⊎ (H.disk_faults host.new ≡ H.disk_faults host.old) }
+        ensures later { H.disk_faults host.old ≤ H.disk_faults host.new }
         ensures other { H.print_faults host.new ≡ H.print_faults host.old }
     {
         match read_entry(host, self.gate, self.limit, buf)? {

@@ -1,4 +1,5 @@
-use Rattle.base_store.proofs.ListedRows.{fewer_left, lists_all, lists_more, lists_none}
+use Rattle.assert_tables.proofs.LeftLemmas.{fewer_left}
+use Rattle.base_store.proofs.ListedRows.{lists_all, lists_more, lists_none}
 use Rattle.base_store.proofs.listing.list_from.Goals as goal
 
 pub loop-row-init : goal.loop-row-init

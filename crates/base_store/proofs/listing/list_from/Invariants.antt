@@ -1,4 +1,5 @@
-use Rattle.base_store.proofs.ListedRows.{ListsUpTo, rows_left}
+use Rattle.assert_tables.proofs.LeftLemmas.{rows_left}
+use Rattle.base_store.proofs.ListedRows.{ListsUpTo}
 use Rattle.base_store.proofs.listing.list_from.Given as goal
 
 abbrev pub invariant-loop-row : goal.invariant-loop-row

@@ -1,5 +1,6 @@
 use Rattle.std.proofs.Common.{None, subst, sym}
-use Rattle.base_store.proofs.ListedRows.{AreListedUpTo, fewer_individuals, listed_all, listed_more, listed_none}
+use Rattle.assert_tables.proofs.LeftLemmas.{fewer_individuals}
+use Rattle.base_store.proofs.ListedRows.{AreListedUpTo, listed_all, listed_more, listed_none}
 use Rattle.base_store.proofs.listing.listed.Goals as goal
 
 pub loop-individual-init : goal.loop-individual-init

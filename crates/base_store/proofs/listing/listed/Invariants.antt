@@ -1,5 +1,6 @@
 use Rattle.assert_tables.specs.Rows.{individuals_of}
-use Rattle.base_store.proofs.ListedRows.{AreListedUpTo, numbers_left}
+use Rattle.assert_tables.proofs.LeftLemmas.{numbers_left}
+use Rattle.base_store.proofs.ListedRows.{AreListedUpTo}
 use Rattle.base_store.proofs.listing.listed.Given as goal
 
 abbrev pub invariant-loop-individual : goal.invariant-loop-individual

@@ -1,9 +1,13 @@
-use Rattle.std.proofs.Common.{◌∙◌, arith, inl, inr}
+use Rattle.std.proofs.Common.{◌∙◌, arith, inl, inr, subst, sym}
+use Rattle.std.specs.Prelude.{IsErrAnd}
 use Rattle.std.specs.Option.{ForSome}
 use Rattle.base_store.specs.Area.{IsDamaged}
 use Rattle.base_store.specs.Loaded.{FaultSays}
 use Rattle.base_store.proofs.LoadedRows.{is_in_range}
-use Rattle.base_store.proofs.OpenedAreas.{damage_says, err_same, has_numbers, loads_from, read_moments}
+use Rattle.gated_log.proofs.Since.{failed_so, is_fault}
+use Rattle.gated_log.specs.Entries.{within}
+use Rattle.gated_log.specs.Stops.{LeavesImages, WhileOpened}
+use Rattle.base_store.proofs.OpenedAreas.{damage_says, err_same, has_numbers, loads_from, read_behind, read_moments}
 use Rattle.base_store.proofs.Taking.{count_within}
 use Rattle.base_store.proofs.store.Store.load.Goals as goal
 
@@ -59,3 +63,31 @@ pub returns-clause-unwritten : goal.returns-clause-unwritten
 returns-clause-unwritten g c = λ d told not_fresh.
     let now = c.in_ok-log.ensures.disk in
     elim (c.in_ok-reader.ensures.unwritten d told not_fresh) [ inl same ↦ inl (now ∙ same) | inr same ↦ inr (now ∙ same) ]
+
+pub returns-in_err-reader-clause-opening : goal.returns-in_err-reader-clause-opening
+returns-in_err-reader-clause-opening g c = λ d told.
+    let h = g.H.Host in
+    let printed = h.printed c.args.host.now in
+    failed_so h.clock h.might (LeavesImages d printed) (WhileOpened (within 1073741824) d printed) c.load.result c.from_residual.result c.args.host.now c.load.new.host
+    (subst (λ r. IsErrAnd r (λ e. Unit {0})) (sym c.in_err-reader.was) tt) (is_fault c.from_residual.result _ c.from_residual.ensures.1) (c.load.ensures.opening d told)
+
+pub returns-in_err-log-clause-opening : goal.returns-in_err-log-clause-opening
+returns-in_err-log-clause-opening g c = λ d told.
+    let h = g.H.Host in
+    let o = c.in_ok-reader.ensures.ok d told in
+    read_behind h.printed h.clock h.might c.load.result c.in_ok-reader.reader c.from_residual-in_err-log.result c.args.host.now c.load.new.host c.read_all.new.host d o.0 c.in_ok-reader.was o.4 o.3 c.in_ok-reader.ensures.printed
+    (c.load.ensures.opening d told) (c.in_err-log.ensures.moments o.0 o.1)
+
+pub returns-in_err-loaded-clause-opening : goal.returns-in_err-loaded-clause-opening
+returns-in_err-loaded-clause-opening g c = λ d told.
+    let h = g.H.Host in
+    let o = c.in_ok-reader.ensures.ok d told in
+    read_behind h.printed h.clock h.might c.load.result c.in_ok-reader.reader c.from_residual-in_err-loaded.result c.args.host.now c.load.new.host c.read_all.new.host d o.0 c.in_ok-reader.was o.4 o.3 c.in_ok-reader.ensures.printed
+    (c.load.ensures.opening d told) (c.in_ok-log.ensures.moments o.0 o.1)
+
+pub returns-clause-opening : goal.returns-clause-opening
+returns-clause-opening g c = λ d told.
+    let h = g.H.Host in
+    let o = c.in_ok-reader.ensures.ok d told in
+    read_behind h.printed h.clock h.might c.load.result c.in_ok-reader.reader _ c.args.host.now c.load.new.host c.read_all.new.host d o.0 c.in_ok-reader.was o.4 o.3 c.in_ok-reader.ensures.printed
+    (c.load.ensures.opening d told) (c.in_ok-log.ensures.moments o.0 o.1)
