@@ -1,35 +1,56 @@
 -- What the search for keys has found so far.
-use Rattle.std.proofs.Common.{◌≡◌, ◌↔◌, ℕ, inl, inr, ◌<◌, List, [], ◌∷◌, ◌++◌, length, All, Contains, Option, refl, sym, ◌∙◌, ap, subst, arith}
-use Rattle.std.proofs.lemmas.List.{append_assoc, append-nil}
-use Rattle.std.proofs.lemmas.List.Elements.{All-nil, Contains-append_left, Contains-append_right, Contains-push, Contains-push_cases}
+use Rattle.std.proofs.Common.{◌≡◌, ◌≢◌, ◌↔◌, ℕ, ◌⊎◌, inl, inr, ◌<◌, List, [], ◌∷◌, length, take, All, Contains, Option, refl, sym, ◌∙◌, ap, subst, arith}
+use Rattle.std.specs.Cmp.Lexicographic.{slice_cmp}
+use Rattle.std.specs.declared.cmp.Ordering.{Ordering}
+use Rattle.std.specs.declared.cmp.Ordering.TheVariants.{Less, Equal, Greater}
+use Rattle.std.proofs.lemmas.Cmp.{lists_total, tied_itself}
+use Rattle.std.proofs.lemmas.List.Elements.{All-nil}
 use Rattle.dl_base.specs.Ontology.{Terminology}
-use Rattle.dl_base.specs.Tables.{TableRow}
+use Rattle.dl_base.specs.Tables.{TableRow, elem_cmp}
 use Rattle.dl_base.specs.declared.concept.Role.{Role}
 use Rattle.dl_base.specs.declared.element.Elem.{Elem}
 use Rattle.dl_base.specs.declared.row.NamedRow.{NamedRow}
-use Rattle.dl_base.proofs.RisingLemmas.{contains_first}
+use Rattle.dl_base.proofs.ElemLemmas.{elem_total, elem_same}
+use Rattle.dl_base.proofs.RisingLemmas.{contains_cases, contains_first, contains_later, slice_same}
 use Rattle.query_shape.specs.Shape.{IsShapeMatch, IsLayout}
 use Rattle.query_shape.specs.Lifting.{LiftsShape}
-use Rattle.join_ops.specs.Joins.{Search, AreLeft, AreMatches, IsNext, IsFixed}
+use Rattle.join_ops.specs.Joins.{SearchPlace, Behind, Past, Search, AreLeft, AreMatches, IsNext, SkipsAlike, IsFixed}
 use Rattle.answer_core.specs.Binding.{BoundQuery}
-use Rattle.answer_core.specs.Found.{AllStand, IsFoundKey, IsTableOf, AddsLifted, AreWithin}
-use Rattle.answer_core.proofs.RankLemmas.{rank, tuples, elements, rank_falls, match_in}
+use Rattle.answer_core.specs.Found.{AllStand, IsFoundKey, IsTableOf, AddsLifted, AreWithin, HasKeyOf}
+use Rattle.answer_core.proofs.RankLemmas.{rank, tuples, elements, rank_falls, rank_past, match_in}
+use Rattle.answer_core.proofs.ReadLemmas.{reads_along}
 
--- a match that was gone through lifts and has these individuals at the answer places
+-- one of these matches lifts and has these individuals at the answer places
 abbrev pub IsLiftedRead : Terminology → List NamedRow → List (List ℕ) → (Role → ℕ) → BoundQuery → ℕ → List (List Elem) → List ℕ → Type 0
-IsLiftedRead o rows names generation b count done numbers = (images : List Elem) × Contains done images × LiftsShape o rows names generation b.shape images × AllStand images b.answers count numbers
+IsLiftedRead o rows names generation b count all numbers = (images : List Elem) × Contains all images × LiftsShape o rows names generation b.shape images × AllStand images b.answers count numbers
 
--- the keys of the matches gone through that lift, and the matches that are left
+-- If the images lift, the key that they have is among these. It is said of each base whose completed table this is.
+abbrev pub IsKeyFound : List TableRow → BoundQuery → ℕ → List (List ℕ) → List Elem → Type 0
+IsKeyFound table b count found images = (o : Terminology) (rows : List NamedRow) (names : List (List ℕ)) (generation : Role → ℕ)
+    → IsTableOf o rows names generation table → LiftsShape o rows names generation b.shape images → (numbers : List ℕ) → AllStand images b.answers count numbers → Contains found numbers
+
+-- the keys found are those of matches that lift, and each match that lifts and isn't left has its key among them
 pub record FoundSoFar (table : List TableRow) (b : BoundQuery) (fixed : List (Option ℕ)) (count : ℕ) (search : Search) (found : List (List ℕ)) : Type 0 where
   pub all : List (List Elem)
   pub left : List (List Elem)
-  pub done : List (List Elem)
   pub are : AreMatches table b.shape fixed all
-  pub whole : done ++ left ≡ all
+  pub among : (images : List Elem) → Contains left images → Contains all images
   pub goes_on : AreLeft table search left
   pub within : AreWithin count found
-  pub lifted : (o : Terminology) (rows : List NamedRow) (names : List (List ℕ)) (generation : Role → ℕ) → IsTableOf o rows names generation table
-      → (numbers : List ℕ) → Contains found numbers ↔ IsLiftedRead o rows names generation b count done numbers
+  pub only : (o : Terminology) (rows : List NamedRow) (names : List (List ℕ)) (generation : Role → ℕ) → IsTableOf o rows names generation table
+      → (numbers : List ℕ) → Contains found numbers → IsLiftedRead o rows names generation b count all numbers
+  pub each : (images : List Elem) → Contains all images → Contains left images ⊎ IsKeyFound table b count found images
+
+same_images : (xs ys : List Elem) → (xs ≡ ys) ⊎ (xs ≢ ys)
+same_images xs ys = by (slice_cmp elem_cmp xs ys) refl
+  where
+    tied : xs ≡ ys → slice_cmp elem_cmp xs ys ≡ Equal
+    tied same = subst (λ (l : List Elem). slice_cmp elem_cmp xs l ≡ Equal) same (tied_itself (lists_total elem_total) xs)
+
+    by : (r : Ordering) → slice_cmp elem_cmp xs ys ≡ r → (xs ≡ ys) ⊎ (xs ≢ ys)
+    by Less e = inr (λ same. let both : Less ≡ Equal = sym e ∙ tied same in cc)
+    by Equal e = inl (slice_same elem_cmp elem_same xs ys e)
+    by Greater e = inr (λ same. let both : Greater ≡ Equal = sym e ∙ tied same in cc)
 
 module _ (table : List TableRow) (b : BoundQuery) (fixed : List (Option ℕ)) (count : ℕ) where
   pub found_none : (search : Search) (found : List (List ℕ)) → found ≡ [] → (left : List (List Elem)) × AreLeft table search left × AreMatches table b.shape fixed left
@@ -37,12 +58,12 @@ module _ (table : List TableRow) (b : BoundQuery) (fixed : List (Option ℕ)) (c
   found_none search found none (left, goes_on, are) = record {
     all = left;
     left = left;
-    done = [];
     are = are;
-    whole = refl;
+    among = λ images c. c;
     goes_on = goes_on;
     within = subst (AreWithin count) (sym none) (All-nil (All (λ n. n < count)));
-    lifted = λ o rows names generation base numbers. (λ c. absurd (nothing numbers c), λ f. absurd (omega (arith, f.1.1)));
+    only = λ o rows names generation base numbers c. absurd (nothing numbers c);
+    each = λ images c. inl c;
   }
     where
       nothing : (numbers : List ℕ) → Contains found numbers → ⊥
@@ -54,64 +75,86 @@ module _ (table : List TableRow) (b : BoundQuery) (fixed : List (Option ℕ)) (c
 
     -- the next match is a match
     pub next_match : IsShapeMatch table b.shape next.images
-    next_match = ((so_far.are.each next.images).0 (subst (λ (ms : List (List Elem)). Contains ms next.images) so_far.whole (Contains-append_right so_far.done so_far.left next.images next_left))).0
+    next_match = ((so_far.are.each next.images).0 (so_far.among next.images next_left)).0
 
     -- and it brings the search nearer to its end
     pub next_falls : IsLayout b.shape → rank (tuples (elements table) b.shape.terms) new.place < rank (tuples (elements table) b.shape.terms) search.place
     next_falls layout = rank_falls (tuples (elements table) b.shape.terms) search.place new.place next.images ((so_far.goes_on.each next.images).0 next_left).1 next.stands (match_in table b.shape next.images layout next_match)
 
+    -- also behind all that agree with it
+    pub skip_falls : (n : ℕ) (newer : Search) → IsLayout b.shape → newer.place ≡ Past n next.images
+        → rank (tuples (elements table) b.shape.terms) newer.place < rank (tuples (elements table) b.shape.terms) search.place
+    skip_falls n newer layout stands =
+        let all = tuples (elements table) b.shape.terms in
+        let falls = rank_falls all search.place (Behind next.images) next.images ((so_far.goes_on.each next.images).0 next_left).1 refl (match_in table b.shape next.images layout next_match) in
+        let more = rank_past all n next.images in
+        subst (λ (p : SearchPlace). rank all p < rank all search.place) (sym stands) (omega (arith, falls, more))
+
     -- the answer places have an image
     pub next_places : All (λ n. n < length b.shape.terms) b.answers → All (λ p. p < length next.images) b.answers
     next_places within = subst (λ (n : ℕ). All (λ p. p < n) b.answers) (sym next_match.count) within
 
-    pub found_more : (more : List (List ℕ)) → (AreWithin count found → AreWithin count more) → AddsLifted b.shape next.images b.answers count found more
-        → FoundSoFar table b fixed count new more
-    found_more more within adds = record {
-      all = so_far.all;
-      left = next.others;
-      done = so_far.done ++ next.images ∷ [];
-      are = so_far.are;
-      whole = append_assoc so_far.done (next.images ∷ []) next.others ∙ (ap (λ (ms : List (List Elem)). so_far.done ++ ms) (sym next.first) ∙ so_far.whole);
-      goes_on = next.goes_on;
-      within = within so_far.within;
-      lifted = λ o rows names generation base numbers. (only o rows names generation base numbers, each o rows names generation base numbers);
-    }
-      where
-        only : (o : Terminology) (rows : List NamedRow) (names : List (List ℕ)) (generation : Role → ℕ) → IsTableOf o rows names generation table
-            → (numbers : List ℕ) → Contains more numbers → IsLiftedRead o rows names generation b count (so_far.done ++ next.images ∷ []) numbers
-        only o rows names generation base numbers c = elim ((adds o rows names generation table base next_match numbers).0 c) [
-          | inl d ↦ (let old = (so_far.lifted o rows names generation base numbers).0 d in (old.0, Contains-append_left so_far.done (next.images ∷ []) old.0 old.1, old.2, old.3))
-          | inr r ↦ (next.images, Contains-push so_far.done next.images, r.0, r.1)
-        ]
+    module _ (more : List (List ℕ)) (within : AreWithin count found → AreWithin count more) (adds : AddsLifted b.shape next.images b.answers count found more) where
+      goes_over : (newer : Search) (rest : List (List Elem)) → AreLeft table newer rest → ((images : List Elem) → Contains rest images → Contains next.others images)
+          → ((images : List Elem) → Contains next.others images → Contains rest images ⊎ IsKeyFound table b count more images) → FoundSoFar table b fixed count newer more
+      goes_over newer rest goes_on into out = record {
+        all = so_far.all;
+        left = rest;
+        are = so_far.are;
+        among = λ images c. so_far.among images (subst (λ (ms : List (List Elem)). Contains ms images) (sym next.first) (contains_later next.images next.others images (into images c)));
+        goes_on = goes_on;
+        within = within so_far.within;
+        only = only;
+        each = λ images c. each images (so_far.each images c);
+      }
+        where
+          only : (o : Terminology) (rows : List NamedRow) (names : List (List ℕ)) (generation : Role → ℕ) → IsTableOf o rows names generation table
+              → (numbers : List ℕ) → Contains more numbers → IsLiftedRead o rows names generation b count so_far.all numbers
+          only o rows names generation base numbers c = elim ((adds o rows names generation table base next_match numbers).0 c) [
+            | inl d ↦ so_far.only o rows names generation base numbers d
+            | inr r ↦ (next.images, so_far.among next.images next_left, r.0, r.1)
+          ]
 
-        each : (o : Terminology) (rows : List NamedRow) (names : List (List ℕ)) (generation : Role → ℕ) → IsTableOf o rows names generation table
-            → (numbers : List ℕ) → IsLiftedRead o rows names generation b count (so_far.done ++ next.images ∷ []) numbers → Contains more numbers
-        each o rows names generation base numbers (images, c, l, r) = elim (Contains-push_cases so_far.done next.images images c) [
-          | inl d ↦ (adds o rows names generation table base next_match numbers).1 (inl ((so_far.lifted o rows names generation base numbers).1 (images, d, l, r)))
-          | inr e ↦ (adds o rows names generation table base next_match numbers).1
-              (inr (subst (λ (ms : List Elem). LiftsShape o rows names generation b.shape ms × AllStand ms b.answers count numbers) (sym e) (l, r)))
-        ]
+          here : (images : List Elem) → images ≡ next.images → IsKeyFound table b count more images
+          here images same o rows names generation base lifts numbers r = (adds o rows names generation table base next_match numbers).1
+              (inr (subst (λ (ms : List Elem). LiftsShape o rows names generation b.shape ms × AllStand ms b.answers count numbers) same (lifts, r)))
+
+          stays : (images : List Elem) → IsKeyFound table b count found images → IsKeyFound table b count more images
+          stays images there o rows names generation base lifts numbers r = (adds o rows names generation table base next_match numbers).1 (inl (there o rows names generation base lifts numbers r))
+
+          each : (images : List Elem) → Contains so_far.left images ⊎ IsKeyFound table b count found images → Contains rest images ⊎ IsKeyFound table b count more images
+          each images (inl c) = elim (contains_cases next.images next.others images (subst (λ (ms : List (List Elem)). Contains ms images) next.first c)) [
+            | inl same ↦ inr (here images same)
+            | inr d ↦ out images d
+          ]
+          each images (inr there) = inr (stays images there)
+
+      pub found_next : FoundSoFar table b fixed count new more
+      found_next = goes_over new next.others next.goes_on (λ images c. c) (λ images c. inl c)
+
+      -- those that have so many first images as the next match have its key
+      pub found_skipped : (n : ℕ) (newer : Search) → All (λ p. p < n) b.answers → HasKeyOf next.images b.answers count more → SkipsAlike table next.others n next.images newer
+          → FoundSoFar table b fixed count newer more
+      found_skipped n newer places has skips = goes_over newer skips.others skips.goes_on (λ images c. ((skips.each images).0 c).0) out
+        where
+          out : (images : List Elem) → Contains next.others images → Contains skips.others images ⊎ IsKeyFound table b count more images
+          out images c = elim (same_images (take n images) (take n next.images)) [
+            | inl same ↦ inr (λ o rows names generation base lifts numbers r. has numbers (reads_along n images next.images count b.answers numbers same places r))
+            | inr apart ↦ inl ((skips.each images).1 (c, apart))
+          ]
 
   -- at the end
   module _ (search : Search) (found : List (List ℕ)) (so_far : FoundSoFar table b fixed count search found) (none : so_far.left ≡ []) where
-    done : so_far.done ≡ so_far.all
-    done = sym (append-nil so_far.done) ∙ (ap (λ (ms : List (List Elem)). so_far.done ++ ms) (sym none) ∙ so_far.whole)
-
-    is_match : (images : List Elem) → Contains so_far.done images → IsShapeMatch table b.shape images × IsFixed fixed images
-    is_match images c = (so_far.are.each images).0 (subst (λ (ms : List (List Elem)). Contains ms images) done c)
-
     pub found_all : (o : Terminology) (rows : List NamedRow) (names : List (List ℕ)) (generation : Role → ℕ) → IsTableOf o rows names generation table
         → (numbers : List ℕ) → Contains found numbers ↔ IsFoundKey o rows names generation table b fixed count numbers
     found_all o rows names generation base numbers = (
       λ c. (
-          let f = (so_far.lifted o rows names generation base numbers).0 c in
-          let is = is_match f.0 f.1 in
+          let f = so_far.only o rows names generation base numbers c in
+          let is = (so_far.are.each f.0).0 f.1 in
           record { images = f.0; match_is = is.0; lifts = f.2; fixed_are = is.1; reads = f.3 }
           ),
-      λ k. (so_far.lifted o rows names generation base numbers).1 (
-        k.images,
-        subst (λ (ms : List (List Elem)). Contains ms k.images) (sym done) ((so_far.are.each k.images).1 (k.match_is, k.fixed_are)),
-        k.lifts,
-        k.reads,
-      ),
+      λ k. elim (so_far.each k.images ((so_far.are.each k.images).1 (k.match_is, k.fixed_are))) [
+        | inl c ↦ absurd (let d : Contains [] k.images = subst (λ (ms : List (List Elem)). Contains ms k.images) none c in omega (arith, d.1))
+        | inr there ↦ there o rows names generation base k.lifts numbers k.reads
+      ],
     )

@@ -1,5 +1,5 @@
 -- How many lists of elements a search may still come to.
-use Rattle.std.proofs.Common.{◌≡◌, ℕ, suc, ◌<◌, ◌≤◌, ◌⊎◌, inl, inr, Bool, true, false, if◌then◌else◌, List, [], ◌∷◌, map, length, All, Contains, slice_get, Some, refl, sym, ap, subst, arith}
+use Rattle.std.proofs.Common.{◌≡◌, ℕ, suc, ◌<◌, ◌≤◌, ◌⊎◌, inl, inr, Bool, true, false, if◌then◌else◌, List, [], ◌∷◌, map, length, take, All, Contains, slice_get, Some, refl, sym, ap, subst, arith}
 use Rattle.std.specs.Cmp.Lexicographic.{slice_cmp}
 use Rattle.std.specs.List.{AllByRecursion, flat_map}
 use Rattle.std.specs.Ordering.{is_lt}
@@ -16,8 +16,10 @@ use Rattle.dl_base.proofs.RisingLemmas.{contains_cases, contains_first, contains
 use Rattle.query_shape.specs.Shape.{Layout, IsLayout, IsShapeMatch, HoldsAt, IsTermOf}
 use Rattle.query_shape.specs.declared.layout.ShapeAtom.{ShapeAtom}
 use Rattle.query_shape.specs.declared.layout.ShapeAtom.TheVariants as shape
-use Rattle.join_ops.specs.Joins.{SearchPlace, Start, Behind, End, IsBehind}
+use Rattle.join_ops.specs.Joins.{SearchPlace, Start, Behind, Past, End, IsBehind}
 use Rattle.dl_base.proofs.PlaceLemmas.{flat_there, map_contains}
+use Rattle.join_ops.proofs.Beyond.{take_less, take_rises}
+use Rattle.join_ops.proofs.LeftLemmas.{less_of}
 
 -- the elements of a row, and of all rows
 abbrev row_elements : TableRow → List Elem
@@ -108,25 +110,26 @@ module _ (p q : List Elem → Bool) (into : (x : List Elem) → q x ≡ true →
 abbrev pub comes_behind : SearchPlace → List Elem → Bool
 comes_behind Start images = true
 comes_behind (Behind last) images = is_lt (slice_cmp elem_cmp last images)
+comes_behind (Past n last) images = is_lt (slice_cmp elem_cmp (take n last) (take n images))
 comes_behind End images = false
 
 -- how many of these lists are behind the place
 abbrev pub rank : List (List Elem) → SearchPlace → ℕ
 rank all place = passing (comes_behind place) all
 
-less_of : (d : Ordering) → is_lt d ≡ true → d ≡ Less
-less_of Less e = refl
-less_of Equal e = absurd cc
-less_of Greater e = absurd cc
-
 behind_is : (place : SearchPlace) (images : List Elem) → IsBehind place images → comes_behind place images ≡ true
 behind_is Start images h = refl
 behind_is (Behind last) images h = ap is_lt h
+behind_is (Past n last) images h = ap is_lt h
 behind_is End images h = absurd h
 
 behind_more : (place : SearchPlace) (images others : List Elem) → IsBehind place images → comes_behind (Behind images) others ≡ true → comes_behind place others ≡ true
 behind_more Start images others h more = refl
 behind_more (Behind last) images others h more = ap is_lt ((lists_total elem_total).trans last images others h (less_of (slice_cmp elem_cmp images others) more))
+behind_more (Past n last) images others h more = elim (take_rises n images others (less_of (slice_cmp elem_cmp images others) more)) [
+  | inl same ↦ ap is_lt (subst (λ (l : List Elem). slice_cmp elem_cmp (take n last) l ≡ Less) same h)
+  | inr less ↦ ap is_lt ((lists_total elem_total).trans (take n last) (take n images) (take n others) h less)
+]
 behind_more End images others h more = absurd h
 
 -- behind the next match there are fewer
@@ -135,3 +138,7 @@ rank_falls all place new images behind stands there =
     subst (λ (at : SearchPlace). rank all at < rank all place) (sym stands)
     (passing_fewer (comes_behind place) (comes_behind (Behind images)) (λ others. behind_more place images others behind) all images there (behind_is place images behind)
     (ap is_lt (tied_itself (lists_total elem_total) images)))
+
+-- behind all that have so many first images there are no more
+pub rank_past : (all : List (List Elem)) (n : ℕ) (images : List Elem) → rank all (Past n images) ≤ rank all (Behind images)
+rank_past all n images = passing_most (comes_behind (Behind images)) (comes_behind (Past n images)) (λ others past. ap is_lt (take_less n images others (less_of _ past))) all

@@ -1,6 +1,7 @@
 -- What a match has at the answer places.
-use Rattle.std.proofs.Common.{◌≡◌, ◌↔◌, ℕ, ◌⊎◌, inl, inr, ◌<◌, ◌≤◌, true, List, [], ◌∷◌, length, get_or, All, Contains, slice_get, Some, refl, sym, ◌∙◌, ap, subst, arith}
-use Rattle.std.proofs.lemmas.List.Elements.{All-cons, All-nil, All-contains, Contains-get_or}
+use Rattle.std.proofs.Common.{◌≡◌, ◌↔◌, ℕ, ◌⊎◌, inl, inr, ◌<◌, ◌≤◌, true, List, [], ◌∷◌, length, take, zero, suc, get_or, All, Contains, slice_get, Some, refl, sym, ◌∙◌, ap, subst, arith}
+use Rattle.std.specs.List.{AllByRecursion}
+use Rattle.std.proofs.lemmas.List.Elements.{All-cons, All-nil, All-contains, Contains-get_or, recursion_from_All}
 use Rattle.std.proofs.lemmas.Option.{slice_get-get_or, slice_get_within, get_or_from_slice_get}
 use Rattle.dl_base.specs.declared.element.Elem.{Elem}
 use Rattle.dl_base.specs.declared.element.Elem.TheVariants as elem
@@ -13,6 +14,12 @@ use Rattle.dl_base.proofs.PlaceLemmas.{some_same}
 -- the image at a place
 pub stands_here : (images : List Elem) (count p n : ℕ) (d : Elem) → p < length images → IsOf count (get_or images p d) n → Stands images count p n
 stands_here images count p n d below is = (slice_get-get_or images p d below ∙ ap Some is.0, is.1)
+
+get_taken : {X : Type 0} (n p : ℕ) (xs : List X) → p < n → slice_get (take n xs) p ≡ slice_get xs p
+get_taken zero p xs below = absurd (omega (arith, below))
+get_taken (suc n) p [] below = refl
+get_taken (suc n) zero (x ∷ xs) below = refl
+get_taken (suc n) (suc p) (x ∷ xs) below = get_taken n p xs (omega (arith, below))
 
 -- each place that was gone through
 pub reads_all : (images : List Elem) (count : ℕ) (places key : List ℕ) (i : ℕ) → length key ≡ length places → length places ≤ i
@@ -75,3 +82,17 @@ added_within es count places key old new adds reads within k d below = elim ((ad
   | inl was ↦ All-contains (All (λ n. n < count)) old (get_or new k d) within was
   | inr is ↦ subst (All (λ n. n < count)) (sym is) (reads_within es count places key reads)
 ]
+
+-- what is read is told by the images up to the last of the places
+pub reads_along : (n : ℕ) (images others : List Elem) (count : ℕ) (places numbers : List ℕ) → take n images ≡ take n others → All (λ p. p < n) places
+    → AllStand images places count numbers → AllStand others places count numbers
+reads_along n images others count places numbers same within reads = along places numbers (recursion_from_All (λ (p : ℕ). p < n) places within) reads
+  where
+    get_along : (p : ℕ) → p < n → slice_get images p ≡ slice_get others p
+    get_along p below = sym (get_taken n p images below) ∙ (ap (λ (l : List Elem). slice_get l p) same ∙ get_taken n p others below)
+
+    along : (places numbers : List ℕ) → AllByRecursion (λ (p : ℕ). p < n) places → AllStand images places count numbers → AllStand others places count numbers
+    along [] [] within reads = reads
+    along [] (m ∷ ms) within reads = absurd reads
+    along (p ∷ ps) [] within reads = absurd reads
+    along (p ∷ ps) (m ∷ ms) within reads = ((sym (get_along p within.0) ∙ reads.0.0, reads.0.1), along ps ms within.1 reads.1)

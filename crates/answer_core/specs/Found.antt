@@ -48,6 +48,10 @@ AddsLifted s images places count old new = (o : Terminology) (rows : List NamedR
     → IsTableOf o rows names generation table → IsShapeMatch table s images
     → (numbers : List ℕ) → Contains new numbers ↔ (Contains old numbers ⊎ (LiftsShape o rows names generation s images × AllStand images places count numbers))
 
+-- whatever individuals the images have at the places, they are one of these keys
+abbrev pub HasKeyOf : List Elem → List ℕ → ℕ → List (List ℕ) → Type 0
+HasKeyOf images places count found = (numbers : List ℕ) → AllStand images places count numbers → Contains found numbers
+
 -- all numbers of these keys are below the count
 abbrev pub AreWithin : ℕ → List (List ℕ) → Type 0
 AreWithin count = All (All (λ n. n < count))

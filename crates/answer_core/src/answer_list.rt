@@ -9,7 +9,7 @@ ghost use Rattle.dl_base.specs.declared.concept.Role.{Role as AnyRole};
 ghost use Rattle.dl_base.specs.declared.row.NamedRow.{NamedRow as AnyRow};
 ghost use Rattle.query_shape.specs.Shape.{IsLayout};
 ghost use Rattle.answer_core.specs.Binding.{IsBoundTo};
-ghost use Rattle.answer_core.specs.Found.{AddsLifted, AllStand, AreWithin, IsFoundKey, IsOf, IsTableOf};
+ghost use Rattle.answer_core.specs.Found.{AddsLifted, AllStand, AreWithin, HasKeyOf, IsFoundKey, IsOf, IsTableOf};
 
 use crate::bound::Bound;
 use crate::fixed::{fixed_numbers, has_names};
@@ -23,7 +23,8 @@ use std::alloc::{AllocError, Global};
 /// The certain answers, in order, each once: the keys of the matches in completed tables that lift, have individuals of
 /// the book at the answer places, and have each name of the query on its own individual.
 ///
-/// It takes memory for the keys, and none for further matches of a key.
+/// It takes memory for the keys, and none for further matches of a key. Behind a match that lifts the search goes on
+/// behind all that agree with it up to the last of the answer terms.
 pub fn answers<T: Tables>(
     alloc: Global,
     t: &T,
@@ -68,11 +69,12 @@ fn found_keys<T: Tables>(
         → IfOk result (λ found. (numbers : List ℕ) → Contains found numbers
         ↔ IsFoundKey o rows names generation (T.rows t.now) (record { shape = shape.now; answers = places.now }) fixed.now count numbers) }
 {
+    let terms = terms_up_to(places);
     let mut key = vec![in alloc; 0u32; places.len()]?;
     let mut found = NumberKeys::new(alloc);
     let mut matches = Matches::new(alloc, shape, fixed)?;
     'matches: while matches.advance(t) {
-        add_key(
+        let settled = add_key(
             alloc,
             &mut found,
             shape,
@@ -81,12 +83,27 @@ fn found_keys<T: Tables>(
             count,
             key.as_mut_slice(),
         )?;
+        if settled {
+            matches.skip_alike(terms);
+        }
     }
     Ok(found)
 }
 
+/// How many first terms there are up to the last of those at the places.
+fn terms_up_to(places: &[u32]) -> usize
+    ensures { All (λ p. p < result) places.now }
+{
+    let mut terms = 0;
+    for place in places {
+        terms = terms.max(*place as usize + 1);
+    }
+    terms
+}
+
 /// Adds the key that the match has at the places, where all of it are individuals whose numbers are below `count` and the
-/// match lifts. `key` is where it is read into.
+/// match lifts. Tells whether no match with the same images at the places has another key to give: where they have no
+/// key, or it is there now. `key` is where it is read into.
 fn add_key(
     alloc: Global,
     found: &mut NumberKeys,
@@ -95,17 +112,22 @@ fn add_key(
     places: &[u32],
     count: usize,
     key: &mut [u32],
-) -> Result<(), AllocError>
+) -> Result<bool, AllocError>
     requires images { length images.now ≡ length shape.now.terms }
     requires places { All (λ p. p < length images.now) places.now }
     requires room { length key.old ≡ length places.now }
     ensures lifted { OnOk result (AddsLifted shape.now images.now places.now count found.old found.new) }
     ensures within { AreWithin count found.old → OnOk result (AreWithin count found.new) }
+    ensures settled { IfOk result (λ settled. OnTrue settled (HasKeyOf images.now places.now count found.new)) }
 {
-    if read_key(images, places, count, key) && lifts(shape, images) {
-        found.add(alloc, key)?;
+    if !read_key(images, places, count, key) {
+        return Ok(true);
     }
-    Ok(())
+    if !lifts(shape, images) {
+        return Ok(false);
+    }
+    found.add(alloc, key)?;
+    Ok(true)
 }
 
 /// Whether all terms at the places have individuals whose numbers are below `count`. Then `key` has these numbers.

@@ -19,7 +19,7 @@ const CONCEPTS: [(u32, u32); 3] = [(0, 0), (0, 1), (0, 7)];
 const ROLES: [(u32, u32, u32); 4] = [(0, 0, 0), (0, 1, 2), (0, 1, 0), (1, 7, 1)];
 
 /// A query, and its keys: behind each name a comma, and behind each key a semicolon.
-const ANSWERS: [(&[u8], &[u8]); 12] = [
+const ANSWERS: [(&[u8], &[u8]); 15] = [
     (b"q(?x) :- A(?x)", b"a,;c,;"),
     (b"q(?x) :- r(?x, ?x)", b"c,;"),
     (b"q(?x) :- r(?x, ?y)", b"a,;c,;"),
@@ -32,12 +32,15 @@ const ANSWERS: [(&[u8], &[u8]); 12] = [
     (b"q(?x) :- A(?x), r(?y, d)", b""),
     (b"q(?x) :- s(?x, ?y)", b""),
     (b"q(?y) :- s(?x, ?y)", b"a,;"),
+    (b"q(?z) :- r(?x, ?y), r(?x, ?z)", b"b,;c,;"),
+    (b"q(?x, ?x) :- r(?x, ?y)", b"a,a,;c,c,;"),
+    (b"q() :- r(?x, ?y), r(?x, ?z)", b";"),
 ];
 
 /// Whatever is in A has a successor by r, and whatever r leads to has one by s. All three are in A, and r leads from c to a.
 const SUCCESSORS: &[u8] = b"Aa.Ab.Ac.raR.rbR.rca.sRS.saS.";
 
-const BY_SUCCESSORS: [(&[u8], &[u8]); 9] = [
+const BY_SUCCESSORS: [(&[u8], &[u8]); 10] = [
     (b"q(?x, ?y) :- r(?x, ?z), r(?y, ?z)", b"a,a,;b,b,;c,c,;"),
     (b"q(?x) :- r(?x, ?z)", b"a,;b,;c,;"),
     (b"q(?z) :- r(?x, ?z)", b"a,;"),
@@ -50,6 +53,7 @@ const BY_SUCCESSORS: [(&[u8], &[u8]); 9] = [
     (b"q() :- s(?x, ?y), s(?y, ?z)", b""),
     (b"q() :- s(?y, ?z), r(?x, ?y), A(?x)", b";"),
     (b"q(?x) :- s(?x, ?y)", b"a,;"),
+    (b"q(?x) :- r(?x, ?z), r(?y, ?z)", b"a,;b,;c,;"),
 ];
 
 /// Whatever is in A has a successor by r, and so has whatever r leads to. a is in A.

@@ -192,7 +192,7 @@ pub new_left : (table : List TableRow) (s : Layout) (atoms : List ShapeAtom) (fi
 new_left table s atoms fixed own layout same_atoms long same_fixed =
     let all = all_found table s fixed layout long in
     let left : AreLeft table (record { atoms = s.atoms; fixed = fixed; place = Start }) all.0 = record {
-      last = λ images e. absurd (cc);
+      last = tt;
       rising = all.1.rising;
       each = λ images. ((λ c. ((all.1.each images).0 c, tt)), (λ h. (all.1.each images).1 h.0));
     } in

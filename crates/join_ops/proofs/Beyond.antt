@@ -1,5 +1,5 @@
 -- Lists of images that are beyond a place among the levels.
-use Rattle.std.proofs.Common.{◌≡◌, ◌≤◌, suc, ◌⊎◌, inl, inr, List, [], ◌∷◌, ◌++◌, Option, Some, None, length, refl, ap, subst, arith}
+use Rattle.std.proofs.Common.{◌≡◌, ◌≤◌, suc, ◌⊎◌, inl, inr, List, [], ◌∷◌, ◌++◌, Option, Some, None, ℕ, zero, take, length, refl, ap, subst, arith}
 use Rattle.std.specs.Cmp.Lexicographic.{slice_cmp}
 use Rattle.std.specs.Ordering.{ordering_then}
 use Rattle.std.specs.declared.cmp.Ordering.{Ordering}
@@ -116,3 +116,50 @@ beyond_behind [] a (x ∷ xs) long h = less_first a x [] xs h
 beyond_behind (f ∷ fs) a [] long h = absurd h
 beyond_behind (f ∷ fs) a (x ∷ xs) long (inl q) = less_first f x (fs ++ a ∷ []) xs q
 beyond_behind (f ∷ fs) a (x ∷ xs) long (inr h) = less_later f x (fs ++ a ∷ []) xs h.0 (beyond_behind fs a xs (omega arith) h.1)
+
+-- what is beyond a level is told by the images up to that level
+pub beyond_whole : (front : List Elem) (after : Option Elem) (images : List Elem) → IsBeyond front after (take (suc (length front)) images) → IsBeyond front after images
+beyond_whole [] after [] h = absurd h
+beyond_whole [] after (x ∷ xs) h = h
+beyond_whole (f ∷ fs) after [] h = absurd h
+beyond_whole (f ∷ fs) after (x ∷ xs) (inl q) = inl q
+beyond_whole (f ∷ fs) after (x ∷ xs) (inr h) = inr (h.0, beyond_whole fs after xs h.1)
+
+pub beyond_cut : (front : List Elem) (after : Option Elem) (images : List Elem) → IsBeyond front after images → IsBeyond front after (take (suc (length front)) images)
+beyond_cut [] after [] h = absurd h
+beyond_cut [] after (x ∷ xs) h = h
+beyond_cut (f ∷ fs) after [] h = absurd h
+beyond_cut (f ∷ fs) after (x ∷ xs) (inl q) = inl q
+beyond_cut (f ∷ fs) after (x ∷ xs) (inr h) = inr (h.0, beyond_cut fs after xs h.1)
+
+-- of rising images the first ones are the same or rise
+pub take_rises : (n : ℕ) (xs ys : List Elem) → slice_cmp elem_cmp xs ys ≡ Less → (take n xs ≡ take n ys) ⊎ (slice_cmp elem_cmp (take n xs) (take n ys) ≡ Less)
+take_rises zero xs ys h = inl refl
+take_rises (suc n) [] [] h = absurd cc
+take_rises (suc n) [] (y ∷ ys) h = inr h
+take_rises (suc n) (x ∷ xs) [] h = absurd cc
+take_rises (suc n) (x ∷ xs) (y ∷ ys) h = by (elem_cmp x y) refl h (take_rises n xs ys)
+  where
+    by : (r : Ordering) → elem_cmp x y ≡ r → ordering_then r (slice_cmp elem_cmp xs ys) ≡ Less
+        → (slice_cmp elem_cmp xs ys ≡ Less → (take n xs ≡ take n ys) ⊎ (slice_cmp elem_cmp (take n xs) (take n ys) ≡ Less))
+        → (x ∷ take n xs ≡ y ∷ take n ys) ⊎ (slice_cmp elem_cmp (x ∷ take n xs) (y ∷ take n ys) ≡ Less)
+    by Less q h more = inr (less_first x y (take n xs) (take n ys) q)
+    by Equal q h more = elim (more h) [
+      | inl same ↦ inl (let e = elem_same x y q in cc (e, same))
+      | inr less ↦ inr (less_later x y (take n xs) (take n ys) (elem_same x y q) less)
+    ]
+    by Greater q h more = absurd cc
+
+-- where the first ones rise, all do
+pub take_less : (n : ℕ) (xs ys : List Elem) → slice_cmp elem_cmp (take n xs) (take n ys) ≡ Less → slice_cmp elem_cmp xs ys ≡ Less
+take_less zero xs ys h = absurd cc
+take_less (suc n) [] [] h = absurd cc
+take_less (suc n) [] (y ∷ ys) h = h
+take_less (suc n) (x ∷ xs) [] h = absurd cc
+take_less (suc n) (x ∷ xs) (y ∷ ys) h = by (elem_cmp x y) refl h (take_less n xs ys)
+  where
+    by : (r : Ordering) → elem_cmp x y ≡ r → ordering_then r (slice_cmp elem_cmp (take n xs) (take n ys)) ≡ Less
+        → (slice_cmp elem_cmp (take n xs) (take n ys) ≡ Less → slice_cmp elem_cmp xs ys ≡ Less) → slice_cmp elem_cmp (x ∷ xs) (y ∷ ys) ≡ Less
+    by Less q h more = less_first x y xs ys q
+    by Equal q h more = less_later x y xs ys (elem_same x y q) (more h)
+    by Greater q h more = absurd cc

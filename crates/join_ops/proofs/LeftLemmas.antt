@@ -1,20 +1,25 @@
 -- What a search has left once it went on.
-use Rattle.std.proofs.Common.{◌≡◌, ℕ, Bool, true, false, ◌⊎◌, inl, inr, List, [], ◌∷◌, Option, Contains, refl, sym, ap, ◌∙◌, subst, arith}
+use Rattle.std.proofs.Common.{◌≡◌, ℕ, Bool, true, false, if◌then◌else◌, ◌⊎◌, inl, inr, List, [], ◌∷◌, Option, Contains, take, refl, sym, ap, ◌∙◌, subst, arith}
 use Rattle.std.specs.Cmp.{IsTotalOrder}
 use Rattle.std.specs.Cmp.Lexicographic.{slice_cmp}
+use Rattle.std.specs.List.{filter}
 use Rattle.std.specs.List.Sorted.{IsStrictlySortedBy}
-use Rattle.std.specs.declared.cmp.Ordering.TheVariants.{Less, Equal}
+use Rattle.std.specs.Ordering.{is_lt}
+use Rattle.std.specs.declared.cmp.Ordering.{Ordering}
+use Rattle.std.specs.declared.cmp.Ordering.TheVariants.{Less, Equal, Greater}
 use Rattle.std.proofs.lemmas.Cmp.{lists_total, tied_itself}
+use Rattle.std.proofs.lemmas.List.Kept.{IsStrictlySortedBy-filter}
 use Rattle.dl_base.specs.Tables.{TableRow, elem_cmp}
 use Rattle.dl_base.specs.declared.element.Elem.{Elem}
 use Rattle.dl_base.proofs.ElemLemmas.{elem_total}
 use Rattle.dl_base.proofs.RisingLemmas.{contains_cases, contains_first, contains_later, all_contains}
 use Rattle.dl_base.proofs.RowLemmas.{none_rising}
 use Rattle.query_shape.specs.declared.layout.ShapeAtom.{ShapeAtom}
-use Rattle.join_ops.specs.Joins.{SearchPlace, Start, Behind, End, IsFound, IsBehind, AreLeft, IsNext, Advances}
-use Rattle.join_ops.specs.Levels.{Finds, IsLast, IsLeast, place_at}
+use Rattle.join_ops.specs.Joins.{SearchPlace, Start, Behind, Past, End, IsFound, IsBehind, IsLast, AreLeft, IsNext, Advances, SkipsAlike}
+use Rattle.join_ops.specs.Levels.{Finds, IsLeast, place_at}
 use Rattle.join_ops.specs.declared.search.At.{At}
 use Rattle.join_ops.specs.declared.search.At.TheVariants as at
+use Rattle.join_ops.proofs.Beyond.{take_rises, take_less}
 
 pub images_total : IsTotalOrder (slice_cmp elem_cmp)
 images_total = lists_total elem_total
@@ -28,6 +33,10 @@ less_through x y z e f = images_total.trans x y z e f
 behind_through : (place : SearchPlace) (x y : List Elem) → IsBehind place x → slice_cmp elem_cmp x y ≡ Less → IsBehind place y
 behind_through Start x y h less = tt
 behind_through (Behind last) x y h less = less_through last x y h less
+behind_through (Past n last) x y h less = elim (take_rises n x y less) [
+  | inl same ↦ subst (λ (l : List Elem). slice_cmp elem_cmp (take n last) l ≡ Less) same h
+  | inr more ↦ less_through (take n last) (take n x) (take n y) h more
+]
 behind_through End x y h less = absurd h
 
 module _ (table : List TableRow) (atoms : List ShapeAtom) (fixed : List (Option ℕ)) (place : SearchPlace) where
@@ -37,7 +46,7 @@ module _ (table : List TableRow) (atoms : List ShapeAtom) (fixed : List (Option 
   none_left [] are none = (
     refl,
     record {
-      last = λ images e. absurd (cc);
+      last = tt;
       rising = none_rising (slice_cmp elem_cmp);
       each = λ images. ((λ c. absurd (omega arith)), (λ h. absurd h.1));
     },
@@ -64,7 +73,7 @@ module _ (table : List TableRow) (atoms : List ShapeAtom) (fixed : List (Option 
   others_left x xs are =
       let there = (are.each x).0 (contains_first x xs) in
       record {
-        last = λ images e. let same : x ≡ images = cc in subst (IsFound table atoms fixed) same there.0;
+        last = there.0;
         rising = are.rising.1;
         each = λ images. (
           (λ c. (((are.each images).0 (contains_later x xs images c)).0, all_contains _ xs images are.rising.0 c)),
@@ -107,3 +116,71 @@ pub advances : (table : List TableRow) (atoms : List ShapeAtom) (fixed : List (O
     → ((found ≡ true) × (after ≡ at.Behind)) ⊎ ((found ≡ false) × (after ≡ at.End))
     → Advances table left found (record { atoms = atoms; fixed = fixed; place = place_at after new })
 advances table atoms fixed before after old new left found are finds is = found_left table atoms fixed (place_at before old) left found new after are (finds are.last) is
+
+pub less_of : (r : Ordering) → is_lt r ≡ true → r ≡ Less
+less_of Less e = refl
+less_of Equal e = absurd cc
+less_of Greater e = absurd cc
+
+-- what a filter keeps
+kept_is : {X : Type 0} (p : X → Bool) (xs : List X) (x : X) → Contains (filter p xs) x → Contains xs x × (p x ≡ true)
+kept_is p [] x c = absurd (omega (arith, c.1))
+kept_is {X} p (y ∷ ys) x c = by (p y) refl (kept_is p ys x) c
+  where
+    by : (b : Bool) → p y ≡ b → (Contains (filter p ys) x → Contains ys x × (p x ≡ true))
+        → Contains (if b then y ∷ filter p ys else filter p ys) x → Contains (y ∷ ys) x × (p x ≡ true)
+    by true e rest c = elim (contains_cases y (filter p ys) x c) [
+      | inl same ↦ (subst (λ (z : X). Contains (z ∷ ys) x) same (contains_first x ys), subst (λ (z : X). p z ≡ true) (sym same) e)
+      | inr d ↦ (let k = rest d in (contains_later y ys x k.0, k.1))
+    ]
+    by false e rest c = let k = rest c in (contains_later y ys x k.0, k.1)
+
+kept_in : {X : Type 0} (p : X → Bool) (xs : List X) (x : X) → Contains xs x → p x ≡ true → Contains (filter p xs) x
+kept_in p [] x c is = absurd (omega (arith, c.1))
+kept_in {X} p (y ∷ ys) x c is = by (p y) refl (λ d. kept_in p ys x d is) (contains_cases y ys x c)
+  where
+    by : (b : Bool) → p y ≡ b → (Contains ys x → Contains (filter p ys) x) → (x ≡ y) ⊎ Contains ys x → Contains (if b then y ∷ filter p ys else filter p ys) x
+    by true e rest (inl same) = subst (λ (z : X). Contains (z ∷ filter p ys) x) same (contains_first x (filter p ys))
+    by true e rest (inr d) = contains_later y (filter p ys) x (rest d)
+    by false e rest (inl same) = absurd (let out : p x ≡ false = subst (λ (z : X). p z ≡ false) (sym same) e in let both : true ≡ false = sym is ∙ out in cc)
+    by false e rest (inr d) = rest d
+
+-- what is left behind all that have so many first images as the last match
+pub past_left : (table : List TableRow) (atoms : List ShapeAtom) (fixed : List (Option ℕ)) (n : ℕ) (x : List Elem) (left : List (List Elem))
+    → AreLeft table (record { atoms = atoms; fixed = fixed; place = Behind x }) left
+    → SkipsAlike table left n x (record { atoms = atoms; fixed = fixed; place = Past n x })
+past_left table atoms fixed n x left are = record {
+  others = filter above left;
+  stands = refl;
+  goes_on = record {
+    last = are.last;
+    rising = IsStrictlySortedBy-filter (slice_cmp elem_cmp) above left are.rising;
+    each = λ images. (
+      (λ c. let k = kept_is above left images c in (((are.each images).0 k.0).0, less_of _ k.1)),
+      (λ h. kept_in above left images ((are.each images).1 (h.0, take_less n x images h.1)) (ap is_lt h.1)),
+    );
+  };
+  each = λ images. (
+    (λ c. let k = kept_is above left images c in (k.0, λ same. apart images (less_of _ k.1) same)),
+    (λ h. kept_in above left images h.0 (elim (take_rises n x images ((are.each images).0 h.0).1) [ inl same ↦ absurd (h.1 (sym same)) | inr less ↦ ap is_lt less ])),
+  );
+}
+  where
+    above : List Elem → Bool
+    above images = is_lt (slice_cmp elem_cmp (take n x) (take n images))
+
+    apart : (images : List Elem) → slice_cmp elem_cmp (take n x) (take n images) ≡ Less → take n images ≡ take n x → ⊥
+    apart images less same = never_below (take n x) (subst (λ (l : List Elem). slice_cmp elem_cmp (take n x) l ≡ Less) same less)
+
+stood_at : (at : At) (images last : List Elem) → place_at at images ≡ Behind last → images ≡ last
+stood_at at.Start images last stands = absurd cc
+stood_at at.Behind images last stands = cc
+stood_at (at.Past n) images last stands = absurd cc
+stood_at at.End images last stands = absurd cc
+
+pub skips_alike : (table : List TableRow) (atoms : List ShapeAtom) (fixed : List (Option ℕ)) (at : At) (n : ℕ) (images last : List Elem) (left : List (List Elem))
+    → AreLeft table (record { atoms = atoms; fixed = fixed; place = place_at at images }) left → place_at at images ≡ Behind last
+    → SkipsAlike table left n last (record { atoms = atoms; fixed = fixed; place = Past n images })
+skips_alike table atoms fixed at n images last left are stands =
+    subst (λ (l : List Elem). SkipsAlike table left n last (record { atoms = atoms; fixed = fixed; place = Past n l })) (sym (stood_at at images last stands))
+    (past_left table atoms fixed n last left (subst (λ (p : SearchPlace). AreLeft table (record { atoms = atoms; fixed = fixed; place = p }) left) stands are))

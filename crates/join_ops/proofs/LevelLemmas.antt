@@ -1,20 +1,23 @@
 -- How a search goes from level to level.
-use Rattle.std.proofs.Common.{◌≡◌, ◌≤◌, ◌<◌, ℕ, zero, suc, ◌⊎◌, inl, inr, List, [], ◌∷◌, ◌++◌, Option, Some, None, length, map, Contains, slice_get, refl, sym, ap, ◌∙◌, subst, arith, append_assoc}
+use Rattle.std.proofs.Common.{◌≡◌, ◌≤◌, ◌<◌, ℕ, zero, suc, ◌⊎◌, inl, inr, Bool, true, false, not, List, [], ◌∷◌, ◌++◌, Option, Some, None, length, take, map, Contains, slice_get, refl, sym, ap, ◌∙◌, subst, arith, append_assoc}
+use Rattle.std.proofs.lemmas.List.{length-take-le}
 use Rattle.std.proofs.lemmas.Option.{slice_get-map, slice_get_within}
+use Rattle.std.specs.Bool.{OnTrue}
 use Rattle.std.specs.Option.{option_map}
 use Rattle.std.specs.declared.cmp.Ordering.TheVariants.{Greater}
-use Rattle.dl_base.specs.Tables.{TableRow, IsAbove, IsLeastAbove, elem_cmp}
+use Rattle.dl_base.specs.declared.concept.Role.{Role}
+use Rattle.dl_base.specs.Tables.{TableRow, turned_row, IsAbove, IsLeastAbove, elem_cmp}
 use Rattle.dl_base.specs.declared.element.Elem.{Elem}
 use Rattle.dl_base.specs.declared.element.Elem.TheVariants as elem
 use Rattle.dl_base.proofs.PlaceLemmas.{place_stays}
 use Rattle.query_shape.specs.Shape.{HoldsAt, IsBelow}
 use Rattle.query_shape.specs.declared.layout.ShapeAtom.{ShapeAtom}
 use Rattle.query_shape.specs.declared.layout.ShapeAtom.TheVariants as shape
-use Rattle.join_ops.specs.Joins.{SearchPlace, Start, Behind, IsFound, IsBehind}
-use Rattle.join_ops.specs.Levels.{fixed_of, Offers, IsFromFront, IsSource, AreSources, Fits, IsBeyond, IsFront, IsAt, IsLeast}
+use Rattle.join_ops.specs.Joins.{SearchPlace, Start, Behind, Past, IsFound, IsBehind}
+use Rattle.join_ops.specs.Levels.{fixed_of, Offers, Gives, IsFromFront, IsSource, AreSources, Fits, IsBeyond, IsFront, IsAt, IsLeast}
 use Rattle.join_ops.specs.declared.source.Source.{Source}
 use Rattle.join_ops.specs.declared.source.Source.TheVariants as source
-use Rattle.join_ops.proofs.Beyond.{deeper_beyond, deeper_within, back_beyond, back_within, last_least, last_beyond, behind_beyond, beyond_behind}
+use Rattle.join_ops.proofs.Beyond.{deeper_beyond, deeper_within, back_beyond, back_within, last_least, last_beyond, behind_beyond, beyond_behind, beyond_whole, beyond_cut}
 
 -- lists that begin with others
 pub get_front : {X : Type 0} (xs ys : List X) (k : ℕ) → k < length xs → slice_get (xs ++ ys) k ≡ slice_get xs k
@@ -30,6 +33,14 @@ pub length_more : {X : Type 0} (xs : List X) (x : X) → length (xs ++ x ∷ [])
 length_more [] x = refl
 length_more (y ∷ xs) x = ap suc (length_more xs x)
 
+length_rest : {X : Type 0} (xs : List X) (x : X) (ys : List X) → length xs < length (xs ++ x ∷ ys)
+length_rest [] x ys = omega arith
+length_rest (y ∷ xs) x ys = let more = length_rest xs x ys in omega (arith, more)
+
+taken_front : {X : Type 0} (xs : List X) (x : X) (ys : List X) → take (suc (length xs)) (xs ++ x ∷ ys) ≡ xs ++ x ∷ []
+taken_front [] x ys = refl
+taken_front (y ∷ xs) x ys = ap (λ zs. y ∷ zs) (taken_front xs x ys)
+
 pub holds_front : (table : List TableRow) (xs ys : List Elem) (a : ShapeAtom) → IsBelow (length xs) a → HoldsAt table (xs ++ ys) a → HoldsAt table xs a
 holds_front table xs ys (shape.Concept c n) below h = (h.0, sym (get_front xs ys n below) ∙ h.1, h.2)
 holds_front table xs ys (shape.Role r n m) below h = (h.0, h.1, sym (get_front xs ys n below.0) ∙ h.2, sym (get_front xs ys m below.1) ∙ h.3, h.4)
@@ -37,6 +48,20 @@ holds_front table xs ys (shape.Role r n m) below h = (h.0, h.1, sym (get_front x
 pub holds_more : (table : List TableRow) (xs ys : List Elem) (a : ShapeAtom) → HoldsAt table xs a → HoldsAt table (xs ++ ys) a
 holds_more table xs ys (shape.Concept c n) h = (h.0, place_stays xs ys n h.0 h.1, h.2)
 holds_more table xs ys (shape.Role r n m) h = (h.0, h.1, place_stays xs ys n h.0 h.2, place_stays xs ys m h.1 h.3, h.4)
+
+turned_back : (table : List TableRow) (turned : Bool) (p : ℕ) (e f : Elem) → Contains table (turned_row (not turned) p f e) → Contains table (turned_row turned p e f)
+turned_back table false p e f c = c
+turned_back table true p e f c = c
+
+pub back_given : (s : Source) (r : Role) (n m k : ℕ) → s ≡ source.Edge (record { name = r.name; inverse = not r.inverse }) m → n ≡ k → Gives s k (shape.Role r n m)
+back_given s r n m k made at table front e long offered =
+    let is : Offers table (source.Edge (record { name = r.name; inverse = not r.inverse }) m) front e = subst (λ (t : Source). Offers table t front e) made offered in
+    (e, is.0, subst (λ (i : ℕ). slice_get (front ++ e ∷ []) i ≡ Some e) (long ∙ sym at) (get_at front e []), place_stays front (e ∷ []) m is.0 is.1, turned_back table r.inverse r.name e is.0 is.2)
+
+-- the edge back to an earlier term
+pub back_on : (b : Bool) (s : Source) (r back : Role) (n m k : ℕ) → back ≡ record { name = r.name; inverse = not r.inverse } → OnTrue b (s ≡ source.Edge back m) → n ≡ k → OnTrue b (Gives s k (shape.Role r n m))
+back_on true s r back n m k turned made at = back_given s r n m k (subst (λ (q : Role). s ≡ source.Edge q m) turned made) at
+back_on false s r back n m k turned made at = tt
 
 below_more : (k j : ℕ) (a : ShapeAtom) → k ≤ j → IsBelow k a → IsBelow j a
 below_more k j (shape.Concept c n) more below = omega arith
@@ -217,3 +242,17 @@ module _ (table : List TableRow) (atoms : List ShapeAtom) (sources : List Source
     beyond = λ images other behind. behind_beyond front a images (long images other ∙ sym count) behind;
     behind = λ images same over. beyond_behind front a images (same ∙ sources_long sources ∙ sym count) over;
   }
+
+  pub stands_past : (front : List Elem) (a : Elem) (rest : List Elem) → IsFound table atoms (map fixed_of sources) (front ++ a ∷ rest)
+      → IsAt table atoms (map fixed_of sources) (Past (suc (length front)) (front ++ a ∷ rest)) front (Some a)
+  stands_past front a rest found = record {
+    front_is = record {
+      atoms_hold = λ t c below. holds_front table front (a ∷ rest) t below (found.atoms_hold t c);
+      fixed_are = λ k n below fixed. sym (get_front front (a ∷ rest) k below) ∙ found.fixed_are k n fixed;
+    };
+    beyond = λ images other behind. beyond_whole front (Some a) images (behind_beyond front a (take (suc (length front)) images) (cut images other.count) (rw (← taken_front front a rest) behind));
+    behind = λ images same over. rw (taken_front front a rest) (beyond_behind front a (take (suc (length front)) images) (cut images same) (beyond_cut front (Some a) images over));
+  }
+    where
+      cut : (images : List Elem) → length images ≡ length (map fixed_of sources) → length (take (suc (length front)) images) ≡ suc (length front)
+      cut images same = length-take-le (suc (length front)) images (omega (arith, same, found.count, length_rest front a rest))

@@ -1,18 +1,24 @@
 -- The steps of a search over the list in which it keeps the images.
-use Rattle.std.proofs.Common.{◌≡◌, ◌≤◌, ◌<◌, ◌+◌, ◌-◌, ℕ, suc, List, [], ◌∷◌, ◌++◌, Option, Some, None, length, map, take, slice_get, get_or, sym, ap, ◌∙◌, subst, arith}
-use Rattle.std.proofs.Math.ListN.{set}
+use Rattle.std.proofs.Common.{◌≡◌, ◌≤◌, ◌<◌, ◌+◌, ◌-◌, min, ◌⊎◌, inl, inr, ℕ, zero, suc, List, [], ◌∷◌, ◌++◌, Option, Some, None, length, map, take, slice_get, get_or, refl, sym, ap, ◌∙◌, subst, arith}
+use Rattle.std.proofs.Math.ListN.{drop, set}
 use Rattle.std.proofs.Math.Seq.{take-length, take-suc}
-use Rattle.std.proofs.lemmas.List.{take_more_set, length-take-le, length-set}
+use Rattle.std.proofs.lemmas.List.{append_assoc, take_more_set, length-take-le, length-set, take-append-drop}
 use Rattle.std.proofs.lemmas.Option.{slice_get-get_or}
 use Rattle.dl_base.specs.Tables.{TableRow, IsLeastAbove}
 use Rattle.dl_base.specs.declared.element.Elem.{Elem}
 use Rattle.query_shape.specs.declared.layout.ShapeAtom.{ShapeAtom}
-use Rattle.join_ops.specs.Joins.{SearchPlace, Start, Behind, IsFound, IsBehind}
+use Rattle.join_ops.specs.Joins.{SearchPlace, Start, Behind, Past, IsFound, IsBehind}
 use Rattle.join_ops.specs.Levels.{fixed_of, Fits, IsAt, IsLeast, IsSearch}
 use Rattle.join_ops.specs.declared.source.Source.{Source}
-use Rattle.join_ops.proofs.LevelLemmas.{goes_deeper, goes_back, gives_least, gives_none, starts, stands}
+use Rattle.join_ops.proofs.LevelLemmas.{goes_deeper, goes_back, gives_least, gives_none, starts, stands, stands_past}
 use Rattle.join_ops.proofs.Rooms.{room_falls, known_all, offered_known_all}
 use Rattle.join_ops.proofs.Weights.{weight, deeper_falls, back_falls}
+
+take_all : {X : Type 0} (n : ℕ) (xs : List X) → length xs ≤ n → take n xs ≡ xs
+take_all zero [] most = refl
+take_all zero (x ∷ xs) most = absurd (omega (arith, most))
+take_all (suc n) [] most = refl
+take_all (suc n) (x ∷ xs) most = ap (λ ys. x ∷ ys) (take_all n xs (omega (arith, most)))
 
 source_at : (sources : List Source) (front : List Elem) (level : ℕ) (d : Source) → length front ≡ level → level < length sources → slice_get sources (length front) ≡ Some (get_or sources level d)
 source_at sources front level d count below = rw count (slice_get-get_or sources level d below)
@@ -114,3 +120,46 @@ stand_step table atoms sources images d search found =
 
 pub start_step : (table : List TableRow) (atoms : List ShapeAtom) (sources : List Source) (n : ℕ) → IsSearch atoms sources n → IsAt table atoms (map fixed_of sources) Start [] None
 start_step table atoms sources n search = starts table atoms sources search.sources_are (omega (arith, search.each, search.some))
+
+-- so many first ones, or as many as there are
+shared_take : {X : Type 0} (n m : ℕ) (xs : List X) → (n ≡ m) ⊎ ((m ≡ length xs) × (m ≤ n)) → take n xs ≡ take m xs
+shared_take n m xs (inl same) = ap (λ (k : ℕ). take k xs) same
+shared_take n m xs (inr (all, most)) = take_all n xs (omega (arith, all, most)) ∙ sym (take-length xs) ∙ ap (λ (k : ℕ). take k xs) (sym all)
+
+-- where a search goes on behind all that have so many first images as the match that it gave last
+pub past_step : (table : List TableRow) (atoms : List ShapeAtom) (sources : List Source) (images : List Elem) (d : Elem) (n level : ℕ) → IsSearch atoms sources (length images)
+    → IsFound table atoms (map fixed_of sources) images → level < length images → (n ≡ suc level) ⊎ ((suc level ≡ length images) × (suc level ≤ n))
+    → IsAt table atoms (map fixed_of sources) (Past n images) (take level images) (Some (get_or images level d))
+past_step table atoms sources images d n level search found below shared =
+    let front = take level images in
+    let a = get_or images level d in
+    let long : length front ≡ level = length-take-le level images (omega (arith, below)) in
+    let parts : images ≡ front ++ a ∷ drop (suc level) images =
+    sym (take-append-drop (suc level) images) ∙ ap (λ (l : List Elem). l ++ drop (suc level) images) (take-suc images level d below) ∙ append_assoc front (a ∷ []) (drop (suc level) images) in
+    let at = stands_past table atoms sources search.sources_are front a (drop (suc level) images) (subst (IsFound table atoms (map fixed_of sources)) parts found) in
+    let here : IsAt table atoms (map fixed_of sources) (Past (suc level) images) front (Some a) =
+    subst (λ (l : List Elem). IsAt table atoms (map fixed_of sources) (Past (suc level) l) front (Some a)) (sym parts)
+    (subst (λ (k : ℕ). IsAt table atoms (map fixed_of sources) (Past (suc k) (front ++ a ∷ drop (suc level) images)) front (Some a)) long at) in
+    record {
+      front_is = here.front_is;
+      beyond = λ others other behind. here.beyond others other (rw (← same images refl, ← same others (other.count ∙ sym found.count)) behind);
+      behind = λ others count over. rw (same images refl, same others (count ∙ sym found.count)) (here.behind others count over);
+    }
+  where
+    same : (others : List Elem) → length others ≡ length images → take n others ≡ take (suc level) others
+    same others long = shared_take n (suc level) others (elim shared [ inl e ↦ inl e | inr h ↦ inr (h.0 ∙ sym long, h.1) ])
+
+-- no images are above others in none of them
+pub past_none : (table : List TableRow) (atoms : List ShapeAtom) (fixed : List (Option ℕ)) (images : List Elem) (n : ℕ) → n ≡ 0
+    → (others : List Elem) → IsFound table atoms fixed others → IsBehind (Past n images) others → ⊥
+past_none table atoms fixed images zero none others found behind = absurd cc
+past_none table atoms fixed images (suc n) none others found behind = omega (arith, none)
+
+either_most : (n m : ℕ) → (n ≤ m) ⊎ (m ≤ n)
+either_most zero m = inl (omega arith)
+either_most (suc n) zero = inr (omega arith)
+either_most (suc n) (suc m) = elim (either_most n m) [ inl less ↦ inl (omega (arith, less)) | inr more ↦ inr (omega (arith, more)) ]
+
+-- the least of two numbers, where it isn't 0
+pub least_shared : (n long m : ℕ) → m ≡ min n long → (m ≡ 0 → ⊥) → (m - 1 < long) × ((n ≡ suc (m - 1)) ⊎ ((suc (m - 1) ≡ long) × (suc (m - 1) ≤ n)))
+least_shared n long m is some = (omega (arith, is, some), elim (either_most n long) [ inl less ↦ inl (omega (arith, is, some, less)) | inr more ↦ inr (omega (arith, is, some, more), omega (arith, is, some, more)) ])

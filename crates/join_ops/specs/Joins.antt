@@ -1,5 +1,5 @@
 -- Searches for the matches of a shape in tables, and what these have still to give.
-use Rattle.std.specs.Prelude.{◌≡◌, ◌≢◌, ◌↔◌, ℕ, Bool, true, false, List, [], ◌∷◌, Option, Some, length, slice_get, Contains, AllPairs}
+use Rattle.std.specs.Prelude.{◌≡◌, ◌≢◌, ◌↔◌, ℕ, Bool, true, false, List, [], ◌∷◌, Option, Some, length, take, slice_get, Contains, AllPairs}
 use Rattle.std.specs.Cmp.Lexicographic.{slice_cmp}
 use Rattle.std.specs.List.Sorted.{IsStrictlySortedBy}
 use Rattle.std.specs.declared.cmp.Ordering.TheVariants.{Less}
@@ -18,10 +18,11 @@ pub record AreMatches (table : List TableRow) (s : Layout) (fixed : List (Option
   pub distinct : AllPairs (λ x y. x ≢ y) matches
   pub each : (images : List Elem) → Contains matches images ↔ (IsShapeMatch table s images × IsFixed fixed images)
 
--- before the first match, behind the match that was given last, or at the end
+-- before the first match, behind the match that was given last, behind all that have so many first images as it has, or at the end
 pub data SearchPlace : Type 0 where
   Start : SearchPlace
   Behind : List Elem → SearchPlace
+  Past : ℕ → List Elem → SearchPlace
   End : SearchPlace
 
 -- the atoms that are searched for, the individual of each fixed one of their terms, and how far the search has come
@@ -36,15 +37,23 @@ pub record IsFound (table : List TableRow) (atoms : List ShapeAtom) (fixed : Lis
   pub atoms_hold : (a : ShapeAtom) → Contains atoms a → HoldsAt table images a
   pub fixed_are : IsFixed fixed images
 
--- the images are above those that were given last
+-- the images are above those that were given last, or so many first ones of them are
 abbrev pub IsBehind : SearchPlace → List Elem → Type 0
 IsBehind Start images = Unit {0}
 IsBehind (Behind last) images = slice_cmp elem_cmp last images ≡ Less
+IsBehind (Past n last) images = slice_cmp elem_cmp (take n last) (take n images) ≡ Less
 IsBehind End images = ⊥
+
+-- what was given last is a match
+abbrev pub IsLast : List TableRow → List ShapeAtom → List (Option ℕ) → SearchPlace → Type 0
+IsLast table atoms fixed Start = Unit {0}
+IsLast table atoms fixed (Behind last) = IsFound table atoms fixed last
+IsLast table atoms fixed (Past n last) = IsFound table atoms fixed last
+IsLast table atoms fixed End = Unit {0}
 
 -- The search has these matches in the table still to give, in this order.
 pub record AreLeft (table : List TableRow) (search : Search) (left : List (List Elem)) : Type 0 where
-  pub last : (images : List Elem) → search.place ≡ Behind images → IsFound table search.atoms search.fixed images
+  pub last : IsLast table search.atoms search.fixed search.place
   pub rising : IsStrictlySortedBy (slice_cmp elem_cmp) left
   pub each : (images : List Elem) → Contains left images ↔ (IsFound table search.atoms search.fixed images × IsBehind search.place images)
 
@@ -60,3 +69,10 @@ pub record IsNext (table : List TableRow) (left : List (List Elem)) (search : Se
 abbrev pub Advances : List TableRow → List (List Elem) → Bool → Search → Type 0
 Advances table left true search = IsNext table left search
 Advances table left false search = (left ≡ []) × AreLeft table search []
+
+-- the search has left what was left, without those that have so many first images as the last match has
+pub record SkipsAlike (table : List TableRow) (left : List (List Elem)) (n : ℕ) (last : List Elem) (search : Search) : Type 0 where
+  pub others : List (List Elem)
+  pub stands : search.place ≡ Past n last
+  pub goes_on : AreLeft table search others
+  pub each : (images : List Elem) → Contains others images ↔ (Contains left images × (take n images ≢ take n last))

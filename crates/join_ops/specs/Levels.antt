@@ -7,7 +7,7 @@ use Rattle.dl_base.specs.declared.element.Elem.{Elem}
 use Rattle.dl_base.specs.declared.element.Elem.TheVariants as elem
 use Rattle.query_shape.specs.Shape.{HoldsAt, IsTermOf, IsBelow}
 use Rattle.query_shape.specs.declared.layout.ShapeAtom.{ShapeAtom}
-use Rattle.join_ops.specs.Joins.{SearchPlace, Start, Behind, End, IsFound, IsBehind}
+use Rattle.join_ops.specs.Joins.{SearchPlace, Start, Behind, Past, End, IsFound, IsBehind}
 use Rattle.join_ops.specs.declared.source.Source.{Source}
 use Rattle.join_ops.specs.declared.source.Source.TheVariants as source
 use Rattle.join_ops.specs.declared.search.At.{At}
@@ -26,6 +26,10 @@ Offers table (source.Named n) front e = e ≡ elem.Named n
 Offers table (source.Concept c) front e = Contains table (ConceptRow c e)
 Offers table (source.Outgoing r) front e = HasEdge table r e
 Offers table (source.Edge r n) front e = (f : Elem) × (slice_get front n ≡ Some f) × Contains table (edge_row r f e)
+
+-- whatever is offered for the term of this number, the atom holds with it
+abbrev pub Gives : Source → ℕ → ShapeAtom → Type 0
+Gives s k a = (table : List TableRow) (front : List Elem) (e : Elem) → length front ≡ k → Offers table s front e → HoldsAt table (front ++ e ∷ []) a
 
 -- an edge comes from one of so many terms in front
 abbrev pub IsFromFront : ℕ → Source → Type 0
@@ -61,6 +65,7 @@ pub record Fits (table : List TableRow) (atoms : List ShapeAtom) (s : Source) (f
 abbrev pub place_at : At → List Elem → SearchPlace
 place_at at.Start images = Start
 place_at at.Behind images = Behind images
+place_at (at.Past n) images = Past n images
 place_at at.End images = End
 
 -- the images begin above the front, or with it and go on above that element
@@ -90,10 +95,6 @@ pub record IsLeast (table : List TableRow) (atoms : List ShapeAtom) (fixed : Lis
 abbrev pub Finds : List TableRow → List ShapeAtom → List (Option ℕ) → SearchPlace → Bool → List Elem → Type 0
 Finds table atoms fixed place true images = IsLeast table atoms fixed place images
 Finds table atoms fixed place false images = (others : List Elem) → IsFound table atoms fixed others → IsBehind place others → ⊥
-
--- the match at which a search stands
-abbrev pub IsLast : List TableRow → List ShapeAtom → List (Option ℕ) → SearchPlace → Type 0
-IsLast table atoms fixed place = (images : List Elem) → place ≡ Behind images → IsFound table atoms fixed images
 
 -- what a search over so many terms is kept as
 pub record IsSearch (atoms : List ShapeAtom) (sources : List Source) (count : ℕ) : Type 0 where

@@ -2,7 +2,7 @@
 ghost use Rattle.std.specs.Prelude.{◌≡◌, List, length, IfOk};
 ghost use Rattle.dl_base.specs.Tables.{TableRow};
 ghost use Rattle.dl_base.specs.declared.element.Elem.{Elem as AnyElem};
-ghost use Rattle.join_ops.specs.Joins.{Advances, AreLeft, AreMatches, Behind};
+ghost use Rattle.join_ops.specs.Joins.{Advances, AreLeft, AreMatches, Behind, SkipsAlike};
 
 use crate::search::{At, resume};
 use crate::source::{Source, sources};
@@ -65,6 +65,15 @@ impl Matches {
         );
         self.at = if found { At::Behind } else { At::End };
         found
+    }
+
+    /// Skips those of the matches that are left that have so many first images in common with the match to which the
+    /// search has come. It takes no memory.
+    pub fn skip_alike(&mut self, terms: usize)
+        ensures { (table : List TableRow) (left : List (List AnyElem)) (last : List AnyElem) → AreLeft table self.old left → self.old.place ≡ Behind last
+            → SkipsAlike table left terms last self.new }
+    {
+        self.at = At::Past(terms);
     }
 
     /// The match that the search has come to, as the images of the terms by their numbers. It takes no memory.

@@ -1,18 +1,20 @@
 //! The search for the next match, by levels.
 ghost use Rattle.std.specs.Prelude.{◌<◌, length, take, map};
-ghost use Rattle.join_ops.specs.Joins.{SearchPlace};
-ghost use Rattle.join_ops.specs.Levels.{Finds, IsAt, IsLast, IsSearch, fixed_of, place_at};
+ghost use Rattle.join_ops.specs.Joins.{SearchPlace, Past, IsFound, IsLast};
+ghost use Rattle.join_ops.specs.Levels.{Finds, IsAt, IsSearch, fixed_of, place_at};
 
 use crate::level::candidate;
 use crate::source::Source;
 use dl_base::{Elem, Tables};
 use query_shape::ShapeAtom;
 
-/// Where a search stands: before the first match, behind the images, which are the match given last, or at the end.
+/// Where a search stands: before the first match, behind the images, which are the match given last, behind all that
+/// have so many first images as that match, or at the end.
 #[derive(Clone, Copy, Debug)]
 pub(crate) enum At {
     Start,
     Behind,
+    Past(usize),
     End,
 }
 
@@ -35,8 +37,31 @@ pub(crate) fn resume<T: Tables>(
             let after = images[last];
             search(t, atoms, sources, images, last, Some(after))
         }
+        At::Past(terms) => search_past(t, atoms, sources, images, terms),
         At::End => false,
     }
+}
+
+/// Whether there is a match behind all that have so many first images as this one has. Then the images are the least
+/// such match.
+fn search_past<T: Tables>(
+    t: &T,
+    atoms: &[ShapeAtom],
+    sources: &[Source],
+    images: &mut [Elem],
+    terms: usize,
+) -> bool
+    requires { IsSearch atoms.now sources.now (length images.old) }
+    ensures { IsFound (T.rows t.now) atoms.now (map fixed_of sources.now) images.old
+        → Finds (T.rows t.now) atoms.now (map fixed_of sources.now) (Past terms images.old) result images.new }
+{
+    let shared = terms.min(images.len());
+    if shared == 0 {
+        return false;
+    }
+    let level = shared - 1;
+    let after = images[level];
+    search(t, atoms, sources, images, level, Some(after))
 }
 
 /// Looks for the next match from a level on, where the term of that number is to get an element above `after`, or any.

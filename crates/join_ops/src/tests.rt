@@ -55,6 +55,32 @@ const MATCHES: [(&[u8], &[Option<u32>], &[u32]); 12] = [
     (b"q() :- A(?x), B(?x)", &[None], &[]),
 ];
 
+/// A query, the numbers of its fixed terms, so many terms, and the images of its matches where behind each one those that
+/// agree with it on so many first terms are skipped.
+const SKIPS: [(&[u8], &[Option<u32>], usize, &[u32]); 6] = [
+    (b"q() :- r(?x, ?y)", &[None, None], 0, &[1, 1]),
+    (
+        b"q() :- r(?x, ?y)",
+        &[None, None],
+        1,
+        &[1, 1, 2, 3, 3, 1, 4, 4],
+    ),
+    (
+        b"q() :- r(?x, ?y)",
+        &[None, None],
+        2,
+        &[1, 1, 1, 2, 2, 3, 3, 1, 4, 4],
+    ),
+    (b"q() :- s(?x, ?y)", &[None, None], 9, &[2, 5, 2, 6]),
+    (
+        b"q() :- A(?x), r(?x, ?y), s(?x, ?z)",
+        &[None, None, None],
+        2,
+        &[2, 3, 5],
+    ),
+    (b"q() :- r(c, ?x)", &[Some(1), None], 1, &[1, 1]),
+];
+
 fn tables(alloc: Global) -> Result<ListedTables, AllocError> {
     let mut rows = Vec::new(alloc);
     for (concept, individual) in CONCEPTS {
@@ -97,12 +123,14 @@ fn number(e: &Elem) -> u32 {
     }
 }
 
-/// The images of up to 20 matches, one match behind another.
+/// The images of up to 20 matches, one match behind another. Where `skip` is given, those that agree with a match on so
+/// many first terms are skipped.
 fn found(
     alloc: Global,
     t: &ListedTables,
     s: &Shape,
     fixed: &[Option<u32>],
+    skip: Option<usize>,
 ) -> Result<Vec<u32>, AllocError>
     requires { length fixed.now ≡ length s.now.terms }
 {
@@ -114,6 +142,9 @@ fn found(
         }
         for e in matches.images() {
             numbers.push(number(e))?;
+        }
+        if let Some(terms) = skip {
+            matches.skip_alike(terms);
         }
     }
     Ok(numbers)
@@ -130,10 +161,11 @@ fn assert_found(
     t: &ListedTables,
     s: &Shape,
     fixed: &[Option<u32>],
+    skip: Option<usize>,
     wanted: &[u32],
 ) -> Result<(), AllocError> {
     assert!(rt; fixed.len() == s.terms());
-    let numbers = found(alloc, t, s, fixed)?;
+    let numbers = found(alloc, t, s, fixed, skip)?;
     assert_eq!(rt; numbers.as_slice(), wanted);
     Ok(())
 }
@@ -144,7 +176,18 @@ fn gives_each_match_once(rt: HostRuntime) -> Result<(), Fail> {
     let o = ontology(rt.alloc())?;
     for (text, fixed, wanted) in MATCHES {
         let s = shape_of(rt.alloc(), &o, text)?;
-        assert_found(&rt, rt.alloc(), &t, &s, fixed, wanted)?;
+        assert_found(&rt, rt.alloc(), &t, &s, fixed, None, wanted)?;
+    }
+    Ok(())
+}
+
+#[test]
+fn skips_what_agrees(rt: HostRuntime) -> Result<(), Fail> {
+    let t = tables(rt.alloc())?;
+    let o = ontology(rt.alloc())?;
+    for (text, fixed, terms, wanted) in SKIPS {
+        let s = shape_of(rt.alloc(), &o, text)?;
+        assert_found(&rt, rt.alloc(), &t, &s, fixed, Some(terms), wanted)?;
     }
     Ok(())
 }
