@@ -11,3 +11,4 @@ pub mod AlikeSteps
 pub mod StandsForLemmas
 pub mod RunLemmas
 pub mod Generations
+pub mod LoadLemmas

@@ -1,8 +1,9 @@
 -- What the calls of a base say of the disk, and what a stop inside them leaves.
-use Rattle.std.specs.Prelude.{◌≡◌, ◌≢◌, ◌⊎◌, ◌≤◌, ℕ, List, Option, Some, None, Result, OnOk, OnErr}
+use Rattle.std.specs.Prelude.{◌≡◌, ◌≢◌, ◌⊎◌, ℕ, List, Option, Some, None, Result}
 use Rattle.std.specs.Option.{ForSome}
-use Rattle.host_io.specs.Disk.{Disk, IsImage, IsSettled}
-use Rattle.host_io.specs.Moments.{IsShown, Left, LeavesOnly}
+use Rattle.host_io.specs.Disk.{Disk, IsSettled}
+use Rattle.host_io.specs.Moments.{IsShown, Left}
+use Rattle.gated_log.specs.Stops.{LeavesImages, LeavesSince, LeavesThen}
 use Rattle.base_store.specs.Area.{HoldsHistory, IsDamaged, KeepsHistory}
 use Rattle.base_store.specs.History.{History}
 use Rattle.reply_text.specs.declared.reply.Reply.{Reply}
@@ -58,12 +59,6 @@ pub record StepLeaves (s : MachineState) (q : Request) (printed : Option (List �
   pub other : left.second ≡ second
   pub output : IsShown printed left.printed
 
--- a stop before anything was written: an image of each area is left
-pub record LeavesImages (d : Disk) (printed : Option (List ℕ)) (left : Left) : Type 0 where
-  pub area : IsImage d.first left.first
-  pub other : IsImage d.second left.second
-  pub output : IsShown printed left.printed
-
 -- a stop while a base is loaded, once its areas are on the disk: the first area keeps the history
 pub record LeavesKept (h : History) (printed : Option (List ℕ)) (second : List ℕ) (left : Left) : Type 0 where
   pub area : KeepsHistory left.first h
@@ -71,17 +66,12 @@ pub record LeavesKept (h : History) (printed : Option (List ℕ)) (second : List
   pub output : IsShown printed left.printed
 
 -- from some moment of the call on, that of its first sync, a stop leaves an area that keeps the history
-pub record IsSynced {H : Type 0} (clock : H → ℕ) (might : H → ℕ → Left → Type 0) (printed : Option (List ℕ)) (second : List ℕ) (h : History) (old new : H) : Type 0 where
-  pub since : ℕ
-  pub later : clock old ≤ since
-  pub past : since ≤ clock new
-  pub each : (left : Left) → might new since left → LeavesKept h printed second left
+abbrev pub IsSynced : {H : Type 0} → (H → ℕ) → (H → ℕ → Left → Type 0) → Option (List ℕ) → List ℕ → History → H → H → Type 0
+IsSynced clock might printed second h old new = LeavesSince clock might (LeavesKept h printed second) old new
 
 -- A base is loaded: until the first sync nothing is written, and from then on the first area keeps the history.
-pub record Loads {H T E : Type 0} (clock : H → ℕ) (might : H → ℕ → Left → Type 0) (d : Disk) (printed : Option (List ℕ)) (h : History) (result : Result T E) (old new : H) : Type 0 where
-  pub moments : LeavesOnly clock might old new (λ left. LeavesImages d printed left ⊎ LeavesKept h printed d.second.reads left)
-  pub synced : OnOk result (IsSynced clock might printed d.second.reads h old new)
-  pub or_not : OnErr result (IsSynced clock might printed d.second.reads h old new ⊎ LeavesOnly clock might old new (LeavesImages d printed))
+abbrev pub Loads : {H T E : Type 0} → (H → ℕ) → (H → ℕ → Left → Type 0) → Disk → Option (List ℕ) → History → Result T E → H → H → Type 0
+Loads clock might d printed h result old new = LeavesThen clock might (LeavesImages d printed) (LeavesKept h printed d.second.reads) result old new
 
 -- ---- requests
 

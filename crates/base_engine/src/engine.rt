@@ -65,6 +65,7 @@ pub trait Engine: Drop {
             → ((result ≡ Err (EndFault.Damaged 0 at)) ⊎ (result ≡ Err EndFault.DiskFault) ⊎ (result ≡ Err EndFault.NoMemory)) × BothStay (H.disk host.old) (H.disk host.new)) }
         ensures damaged { (area at : ℕ) → result ≡ Err (EndFault.Damaged area at) → ForSome (H.disk host.old) (λ d. IsDamage d area at) }
         ensures disk_fault { IsErrOf result EndFault.DiskFault → Rose (H.disk_faults host.old) (H.disk_faults host.new) }
+        ensures stays { IsErrOf result EndFault.DiskFault ⊎ (H.disk_faults host.new ≡ H.disk_faults host.old) }
         ensures later { H.disk_faults host.old ≤ H.disk_faults host.new }
         ensures told { StaysTold (H.disk host.old) (H.disk host.new) }
         ensures printed { H.printed host.new ≡ H.printed host.old }
@@ -101,6 +102,7 @@ pub trait Engine: Drop {
         // Only requests that touch the area meet a fault of the disk, and only `reopen` meets damage.
         ensures disk_fault { IsErrOf result EndFault.DiskFault → TouchesArea request × Rose (H.disk_faults host.old) (H.disk_faults host.new) }
         ensures damaged { (area at : ℕ) → result ≡ Err (EndFault.Damaged area at) → (H.disk host.old ≡ None) × (area ≡ 0) × IsReopen request }
+        ensures stays { IsErrOf result EndFault.DiskFault ⊎ (H.disk_faults host.new ≡ H.disk_faults host.old) }
         ensures later { H.disk_faults host.old ≤ H.disk_faults host.new }
         ensures told { StaysTold (H.disk host.old) (H.disk host.new) }
         ensures printed { H.printed host.new ≡ H.printed host.old }

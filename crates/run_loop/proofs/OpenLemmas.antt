@@ -5,9 +5,10 @@ use Rattle.host_io.specs.Disk.{Disk, IsImage}
 use Rattle.host_io.specs.Moments.{Left, Leaves, LeavesOnly, IsShown}
 use Rattle.host_io.proofs.Moments.{started, joined, weaker}
 use Rattle.host_io.proofs.Settled.{at_rest_image}
+use Rattle.gated_log.specs.Stops.{LeavesImages}
 use Rattle.base_store.specs.Area.{KeepsHistory}
 use Rattle.base_store.specs.History.{History}
-use Rattle.base_engine.specs.Calls.{DiskKeeps, HoldsAtRest, IsSynced, LeavesImages, LeavesKept, StaysTold}
+use Rattle.base_engine.specs.Calls.{DiskKeeps, HoldsAtRest, IsSynced, LeavesKept, StaysTold}
 use Rattle.base_engine.specs.State.{IsInitial, MachineState}
 use Rattle.base_engine.specs.declared.engine.EndFault.{EndFault}
 use Rattle.base_engine.specs.declared.engine.EndFault.TheVariants as end

@@ -2,10 +2,11 @@
 use Rattle.std.specs.Prelude.{◌≡◌, ◌⊎◌, ◌≤◌, ◌+◌, ℕ, List, [], ◌++◌, length, take, Option, Some, Bool, true, false}
 use Rattle.host_io.specs.Disk.{Disk}
 use Rattle.host_io.specs.Moments.{Left, LeavesOnly}
+use Rattle.gated_log.specs.Stops.{LeavesImages}
 use Rattle.base_store.specs.History.{History}
 use Rattle.script_reader.specs.Requests.{AreRequests}
 use Rattle.script_reader.specs.declared.request.Request.{Request}
-use Rattle.base_engine.specs.Calls.{IsSynced, LeavesImages, LeavesKept, StillKeeps}
+use Rattle.base_engine.specs.Calls.{IsSynced, LeavesKept, StillKeeps}
 use Rattle.base_engine.specs.State.{MachineState}
 use Rattle.run_loop.specs.Serving.{HasLeft, LeftBy, Opening, Replied}
 use Rattle.run_loop.specs.Taking.{EndedAt, StandFirst, TakesAllOf}

@@ -143,6 +143,6 @@ pub record HasCauses {T : Type 0} (result : Result T Fault) (disk_before disk_no
   pub disk_fault : result ≡ Err fault.Disk → Rose disk_before disk_now
   pub print_fault : result ≡ Err fault.Print → Rose print_before print_now
 
--- the count of failures of printing stands, unless the fault is one of printing
-abbrev pub PrintsOn : {T : Type 0} → Result T Fault → ℕ → ℕ → Type 0
-PrintsOn result before now = MatchResult result (λ _. now ≡ before) (λ f. (f ≡ fault.Print) ⊎ (now ≡ before))
+-- a count of failures stands, unless the call ended by this fault
+abbrev pub StaysUnless : {T : Type 0} → Fault → Result T Fault → ℕ → ℕ → Type 0
+StaysUnless by result before now = MatchResult result (λ _. now ≡ before) (λ f. (f ≡ by) ⊎ (now ≡ before))

@@ -5,7 +5,7 @@ ghost use Rattle.base_engine.specs.Calls.{HasKeptState, StaysTold};
 ghost use Rattle.base_engine.specs.Requests.{IsGiven};
 ghost use Rattle.base_engine.specs.State.{MachineState};
 ghost use Rattle.script_reader.specs.declared.request.Request.{Request as Asked};
-ghost use Rattle.run_loop.specs.Serving.{Ended, HasCauses, Opening, PrintsOn, Serves};
+ghost use Rattle.run_loop.specs.Serving.{Ended, HasCauses, Opening, Serves, StaysUnless};
 
 use crate::fault::{Fault, fault_of};
 use crate::printing::print_reply;
@@ -36,7 +36,8 @@ pub fn answer<E: Engine, H: Host, L: Ledger>(
     ensures counted { steps.old ≤ steps.new }
     ensures told { StaysTold (H.disk host.old) (H.disk host.new) }
     ensures cause { HasCauses result (H.disk_faults host.old) (H.disk_faults host.new) (H.print_faults host.old) (H.print_faults host.new) }
-    ensures still { PrintsOn result (H.print_faults host.old) (H.print_faults host.new) }
+    ensures still { StaysUnless Fault.Print result (H.print_faults host.old) (H.print_faults host.new) }
+    ensures disk_still { StaysUnless Fault.Disk result (H.disk_faults host.old) (H.disk_faults host.new) }
     ensures undamaged { ForSome (H.disk host.old) (λ d. IfErr result (λ f. (area at : ℕ) → f ≡ Fault.Damaged area at → ⊥)) }
 {
     match engine.step(alloc, host, request, steps) {

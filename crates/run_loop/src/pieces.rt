@@ -2,7 +2,7 @@
 ghost use Rattle.std.specs.Prelude.{◌≡◌, ◌≤◌, ◌<◌, ◌^◌, ◌++◌, ◌+◌, [], ◌∷◌, ℕ, List, true, false, IfOk, IfErr, MatchResult, length, take};
 ghost use Rattle.std.specs.Option.{ForSome};
 ghost use Rattle.base_engine.specs.Calls.{HasKeptState, StaysTold};
-ghost use Rattle.run_loop.specs.Serving.{HasCauses, Opening, PrintsOn};
+ghost use Rattle.run_loop.specs.Serving.{HasCauses, Opening, StaysUnless};
 ghost use Rattle.run_loop.specs.Taking.{EndedAt, TakesAllOf, TakesBytes};
 
 use crate::fault::Fault;
@@ -36,7 +36,8 @@ pub fn take_piece<E: Engine, H: Host, L: Ledger>(
     ensures counted { steps.old ≤ steps.new }
     ensures told { StaysTold (H.disk host.old) (H.disk host.new) }
     ensures cause { HasCauses result (H.disk_faults host.old) (H.disk_faults host.new) (H.print_faults host.old) (H.print_faults host.new) }
-    ensures still { PrintsOn result (H.print_faults host.old) (H.print_faults host.new) }
+    ensures still { StaysUnless Fault.Print result (H.print_faults host.old) (H.print_faults host.new) }
+    ensures disk_still { StaysUnless Fault.Disk result (H.disk_faults host.old) (H.disk_faults host.new) }
     ensures undamaged { ForSome (H.disk host.old) (λ d. IfErr result (λ f. (area at : ℕ) → f ≡ Fault.Damaged area at → ⊥)) }
 {
     let mut rest = piece;
@@ -77,7 +78,8 @@ fn take_part<E: Engine, H: Host, L: Ledger>(
     ensures counted { steps.old ≤ steps.new }
     ensures told { StaysTold (H.disk host.old) (H.disk host.new) }
     ensures cause { HasCauses result (H.disk_faults host.old) (H.disk_faults host.new) (H.print_faults host.old) (H.print_faults host.new) }
-    ensures still { PrintsOn result (H.print_faults host.old) (H.print_faults host.new) }
+    ensures still { StaysUnless Fault.Print result (H.print_faults host.old) (H.print_faults host.new) }
+    ensures disk_still { StaysUnless Fault.Disk result (H.disk_faults host.old) (H.disk_faults host.new) }
     ensures undamaged { ForSome (H.disk host.old) (λ d. IfErr result (λ f. (area at : ℕ) → f ≡ Fault.Damaged area at → ⊥)) }
 {
     let (count, fed) = lines.feed(bytes);
@@ -105,7 +107,8 @@ pub fn finish<E: Engine, H: Host, L: Ledger>(
     ensures counted { steps.old ≤ steps.new }
     ensures told { StaysTold (H.disk host.old) (H.disk host.new) }
     ensures cause { HasCauses result (H.disk_faults host.old) (H.disk_faults host.new) (H.print_faults host.old) (H.print_faults host.new) }
-    ensures still { PrintsOn result (H.print_faults host.old) (H.print_faults host.new) }
+    ensures still { StaysUnless Fault.Print result (H.print_faults host.old) (H.print_faults host.new) }
+    ensures disk_still { StaysUnless Fault.Disk result (H.disk_faults host.old) (H.disk_faults host.new) }
     ensures undamaged { ForSome (H.disk host.old) (λ d. IfErr result (λ f. (area at : ℕ) → f ≡ Fault.Damaged area at → ⊥)) }
 {
     let fed = lines.finish();

@@ -3,7 +3,7 @@ ghost use Rattle.std.specs.Prelude.{◌≡◌, ◌↔◌, IfOk, OnOk, OnErr, IsT
 ghost use Rattle.host_io.specs.Causes.{HasCause};
 ghost use Rattle.reply_text.specs.ReplyText.{IsAcknowledgement, text_of_reply};
 ghost use Rattle.run_loop.specs.Printing.{PrintsPart, PrintsReply, PrintsWhole};
-ghost use Rattle.run_loop.specs.Serving.{HasCauses, PrintsOn};
+ghost use Rattle.run_loop.specs.Serving.{HasCauses, StaysUnless};
 
 use crate::fault::Fault;
 use host_io::{Failed, Host};
@@ -14,7 +14,8 @@ use std::alloc::{AllocError, Global};
 pub fn print_reply<H: Host>(alloc: Global, host: &mut H, reply: &Reply) -> Result<(), Fault>
     ensures prints { PrintsReply H.disk H.printed H.clock H.might reply.now result host.old host.new }
     ensures cause { HasCauses result (H.disk_faults host.old) (H.disk_faults host.new) (H.print_faults host.old) (H.print_faults host.new) }
-    ensures still { PrintsOn result (H.print_faults host.old) (H.print_faults host.new) }
+    ensures still { StaysUnless Fault.Print result (H.print_faults host.old) (H.print_faults host.new) }
+    ensures disk_still { StaysUnless Fault.Disk result (H.disk_faults host.old) (H.disk_faults host.new) }
 {
     if is_acknowledgement(reply) {
         print_acknowledgement(host, reply)
@@ -39,7 +40,8 @@ fn print_acknowledgement<H: Host>(host: &mut H, reply: &Reply) -> Result<(), Fau
     requires { IsAcknowledgement reply.now }
     ensures prints { PrintsReply H.disk H.printed H.clock H.might reply.now result host.old host.new }
     ensures cause { HasCauses result (H.disk_faults host.old) (H.disk_faults host.new) (H.print_faults host.old) (H.print_faults host.new) }
-    ensures still { PrintsOn result (H.print_faults host.old) (H.print_faults host.new) }
+    ensures still { StaysUnless Fault.Print result (H.print_faults host.old) (H.print_faults host.new) }
+    ensures disk_still { StaysUnless Fault.Disk result (H.disk_faults host.old) (H.disk_faults host.new) }
 {
     let mut buf = [0; 80];
     let len = ack_bytes(reply, &mut buf);
@@ -54,7 +56,8 @@ fn print_other<H: Host>(alloc: Global, host: &mut H, reply: &Reply) -> Result<()
     requires { IsAcknowledgement reply.now → ⊥ }
     ensures prints { PrintsReply H.disk H.printed H.clock H.might reply.now result host.old host.new }
     ensures cause { HasCauses result (H.disk_faults host.old) (H.disk_faults host.new) (H.print_faults host.old) (H.print_faults host.new) }
-    ensures still { PrintsOn result (H.print_faults host.old) (H.print_faults host.new) }
+    ensures still { StaysUnless Fault.Print result (H.print_faults host.old) (H.print_faults host.new) }
+    ensures disk_still { StaysUnless Fault.Disk result (H.disk_faults host.old) (H.disk_faults host.new) }
 {
     let Ok(text) = text_of(alloc, reply) else {
         return Err(Fault::Memory);

@@ -65,6 +65,7 @@ pub fn read_script<E: Engine, S: Source, H: Host, L: Ledger>(
     ensures print_fault { result ≡ Ending.PrintFault → Rose (H.print_faults host.old) (H.print_faults host.new) }
     ensures print_fault_ends { H.print_faults host.old < H.print_faults host.new → result ≡ Ending.PrintFault }
     ensures disk_fault { result ≡ Ending.DiskFault → Rose (H.disk_faults host.old) (H.disk_faults host.new) }
+    ensures disk_fault_ends { H.disk_faults host.old < H.disk_faults host.new → result ≡ Ending.DiskFault }
     ensures undamaged { ForSome (H.disk host.old) (λ d. (area at : ℕ) → result ≡ Ending.Damaged area at → ⊥) }
     ensures read_later { S.read_faults source.old ≤ S.read_faults source.new }
     ensures print_later { H.print_faults host.old ≤ H.print_faults host.new }
@@ -119,6 +120,7 @@ fn finish_script<E: Engine, H: Host, L: Ledger>(
     ensures print_fault { result ≡ Ending.PrintFault → Rose (H.print_faults host.old) (H.print_faults host.new) }
     ensures print_fault_ends { H.print_faults host.old < H.print_faults host.new → result ≡ Ending.PrintFault }
     ensures disk_fault { result ≡ Ending.DiskFault → Rose (H.disk_faults host.old) (H.disk_faults host.new) }
+    ensures disk_fault_ends { H.disk_faults host.old < H.disk_faults host.new → result ≡ Ending.DiskFault }
     ensures undamaged { ForSome (H.disk host.old) (λ d. (area at : ℕ) → result ≡ Ending.Damaged area at → ⊥) }
     ensures not_large { result ≡ Ending.InputTooLarge → ⊥ }
     ensures not_read { result ≡ Ending.ReadFault → ⊥ }

@@ -3,7 +3,7 @@ ghost use Rattle.std.specs.Prelude.{◌≡◌, ◌≤◌, ◌<◌, ◌^◌, ◌+
 ghost use Rattle.std.specs.Option.{ForSome, option_copied};
 ghost use Rattle.script_reader.specs.Requests.{Finished, Is, Token};
 ghost use Rattle.base_engine.specs.Calls.{HasKeptState, StaysTold};
-ghost use Rattle.run_loop.specs.Serving.{HasCauses, Opening, PrintsOn};
+ghost use Rattle.run_loop.specs.Serving.{HasCauses, Opening, StaysUnless};
 ghost use Rattle.run_loop.specs.Taking.{EndedIn, EndedWith, IsTold, Takes, TakesAll, lines_of};
 
 use crate::answering::answer;
@@ -39,7 +39,8 @@ pub fn take_fed<E: Engine, H: Host, L: Ledger>(
     ensures counted { steps.old ≤ steps.new }
     ensures told { StaysTold (H.disk host.old) (H.disk host.new) }
     ensures cause { HasCauses result (H.disk_faults host.old) (H.disk_faults host.new) (H.print_faults host.old) (H.print_faults host.new) }
-    ensures still { PrintsOn result (H.print_faults host.old) (H.print_faults host.new) }
+    ensures still { StaysUnless Fault.Print result (H.print_faults host.old) (H.print_faults host.new) }
+    ensures disk_still { StaysUnless Fault.Disk result (H.disk_faults host.old) (H.disk_faults host.new) }
     ensures undamaged { ForSome (H.disk host.old) (λ d. IfErr result (λ f. (area at : ℕ) → f ≡ Fault.Damaged area at → ⊥)) }
 {
     match fed {
@@ -69,7 +70,8 @@ fn take_line<E: Engine, H: Host, L: Ledger>(
     ensures counted { steps.old ≤ steps.new }
     ensures told { StaysTold (H.disk host.old) (H.disk host.new) }
     ensures cause { HasCauses result (H.disk_faults host.old) (H.disk_faults host.new) (H.print_faults host.old) (H.print_faults host.new) }
-    ensures still { PrintsOn result (H.print_faults host.old) (H.print_faults host.new) }
+    ensures still { StaysUnless Fault.Print result (H.print_faults host.old) (H.print_faults host.new) }
+    ensures disk_still { StaysUnless Fault.Disk result (H.disk_faults host.old) (H.disk_faults host.new) }
     ensures undamaged { ForSome (H.disk host.old) (λ d. IfErr result (λ f. (area at : ℕ) → f ≡ Fault.Damaged area at → ⊥)) }
 {
     match block {
@@ -98,7 +100,8 @@ fn take_inside<E: Engine, H: Host, L: Ledger>(
     ensures counted { steps.old ≤ steps.new }
     ensures told { StaysTold (H.disk host.old) (H.disk host.new) }
     ensures cause { HasCauses result (H.disk_faults host.old) (H.disk_faults host.new) (H.print_faults host.old) (H.print_faults host.new) }
-    ensures still { PrintsOn result (H.print_faults host.old) (H.print_faults host.new) }
+    ensures still { StaysUnless Fault.Print result (H.print_faults host.old) (H.print_faults host.new) }
+    ensures disk_still { StaysUnless Fault.Disk result (H.disk_faults host.old) (H.disk_faults host.new) }
     ensures undamaged { ForSome (H.disk host.old) (λ d. IfErr result (λ f. (area at : ℕ) → f ≡ Fault.Damaged area at → ⊥)) }
 {
     if is_end(line) {
@@ -133,7 +136,8 @@ fn take_outside<E: Engine, H: Host, L: Ledger>(
     ensures counted { steps.old ≤ steps.new }
     ensures told { StaysTold (H.disk host.old) (H.disk host.new) }
     ensures cause { HasCauses result (H.disk_faults host.old) (H.disk_faults host.new) (H.print_faults host.old) (H.print_faults host.new) }
-    ensures still { PrintsOn result (H.print_faults host.old) (H.print_faults host.new) }
+    ensures still { StaysUnless Fault.Print result (H.print_faults host.old) (H.print_faults host.new) }
+    ensures disk_still { StaysUnless Fault.Disk result (H.disk_faults host.old) (H.disk_faults host.new) }
     ensures undamaged { ForSome (H.disk host.old) (λ d. IfErr result (λ f. (area at : ℕ) → f ≡ Fault.Damaged area at → ⊥)) }
 {
     match read_line(alloc, line) {
@@ -167,7 +171,8 @@ pub fn take_end<E: Engine, H: Host, L: Ledger>(
     ensures counted { steps.old ≤ steps.new }
     ensures told { StaysTold (H.disk host.old) (H.disk host.new) }
     ensures cause { HasCauses result (H.disk_faults host.old) (H.disk_faults host.new) (H.print_faults host.old) (H.print_faults host.new) }
-    ensures still { PrintsOn result (H.print_faults host.old) (H.print_faults host.new) }
+    ensures still { StaysUnless Fault.Print result (H.print_faults host.old) (H.print_faults host.new) }
+    ensures disk_still { StaysUnless Fault.Disk result (H.disk_faults host.old) (H.disk_faults host.new) }
     ensures undamaged { ForSome (H.disk host.old) (λ d. IfErr result (λ f. (area at : ℕ) → f ≡ Fault.Damaged area at → ⊥)) }
 {
     match block {

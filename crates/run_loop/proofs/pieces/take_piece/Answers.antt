@@ -15,7 +15,7 @@ loop-rest-init g c =
       counted = omega arith;
       ready = c.requires.ready;
       told = stays_same (h.disk c.args.host.now);
-      disk_later = omega arith;
+      disk_still = refl;
       print_still = refl;
       print_later = omega arith;
     }
@@ -37,7 +37,7 @@ loop-rest-preserved g c =
       few = omega (arith, i.few, c.in-Ok.ensures.few, c.in-Ok.ensures.within, length-drop c.in-Ok.count c.loop-rest.rest.now);
       ready = c.in-Ok.ensures.ready;
       told = stays_on (h.disk c.args.host.now) (h.disk c.loop-rest.host) (h.disk c.take_part.new.host) i.told c.take_part.ensures.told;
-      disk_later = omega (arith, i.disk_later, c.take_part.ensures.cause.disk_later);
+      disk_still = c.in-Ok.ensures.disk_still ∙ i.disk_still;
       print_still = c.in-Ok.ensures.still ∙ i.print_still;
       print_later = omega (arith, i.print_later, c.take_part.ensures.cause.print_later);
     }
@@ -51,3 +51,6 @@ returns-in-Err-clause-takes g c = λ start a read few t.
 
 pub returns-in-Err-clause-still : goal.returns-in-Err-clause-still
 returns-in-Err-clause-still g c = ⊎_elim inl (λ same. inr (same ∙ c.loop-rest.invariant.print_still)) c.in-Err.ensures.still
+
+pub returns-in-Err-clause-disk_still : goal.returns-in-Err-clause-disk_still
+returns-in-Err-clause-disk_still g c = ⊎_elim inl (λ same. inr (same ∙ c.loop-rest.invariant.disk_still)) c.in-Err.ensures.disk_still

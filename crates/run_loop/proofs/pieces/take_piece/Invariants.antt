@@ -16,8 +16,8 @@ invariant-loop-rest g l =
       ready : HasKeptState (e.stands l.engine) (h.disk l.host);
       counted : l.fn.steps ≤ l.steps;
       told : StaysTold (h.disk l.fn.host) (h.disk l.host);
-      disk_later : h.disk_faults l.fn.host ≤ h.disk_faults l.host;
       print_still : h.print_faults l.host ≡ h.print_faults l.fn.host;
+      disk_still : h.disk_faults l.host ≡ h.disk_faults l.fn.host;
       print_later : h.print_faults l.fn.host ≤ h.print_faults l.host;
     }
 

@@ -23,7 +23,7 @@ pieces-init g c =
       print_still = refl;
       read_later = omega arith;
       print_later = omega arith;
-      disk_later = omega arith;
+      disk_still = refl;
     }
 
 pub returns-in_default-clause-run : goal.returns-in_default-clause-run
@@ -99,7 +99,7 @@ pieces-preserved g c =
       print_still = c.in-Ok-take_piece.ensures.still ∙ i.print_still;
       read_later = omega (arith, i.read_later, c.in-Ok.ensures.cause.later);
       print_later = omega (arith, i.print_later, c.take_piece.ensures.cause.print_later);
-      disk_later = omega (arith, i.disk_later, c.take_piece.ensures.cause.disk_later);
+      disk_still = c.in-Ok-take_piece.ensures.disk_still ∙ i.disk_still;
     }
 
 pub returns-in_default-clause-takes_input : goal.returns-in_default-clause-takes_input

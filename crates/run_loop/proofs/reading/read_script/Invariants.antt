@@ -24,9 +24,9 @@ invariant-pieces g l =
       ready : HasKeptState (e.stands l.engine) (h.disk l.host);
       read_still : s.read_faults l.source ≡ s.read_faults l.fn.source;
       print_still : h.print_faults l.host ≡ h.print_faults l.fn.host;
+      disk_still : h.disk_faults l.host ≡ h.disk_faults l.fn.host;
       read_later : s.read_faults l.fn.source ≤ s.read_faults l.source;
       print_later : h.print_faults l.fn.host ≤ h.print_faults l.host;
-      disk_later : h.disk_faults l.fn.host ≤ h.disk_faults l.host;
     }
 
 abbrev pub decreases-pieces : goal.decreases-pieces
