@@ -1,11 +1,11 @@
 //! The program `obda`: the top call over standard input and standard output.
 #![tactic(auto)]
 
-ghost use Rattle.std.specs.Prelude.{◌≡◌, ◌≢◌, ◌↔◌, ◌⊎◌, ℕ, IfErr, map, string_bytes};
+ghost use Rattle.std.specs.Prelude.{◌≡◌, ◌≢◌, ◌<◌, ◌↔◌, ◌⊎◌, ℕ, IfErr, map, string_bytes};
 ghost use Rattle.std.specs.Process.{exit_status};
 ghost use Rattle.host_io.specs.Causes.{Rose};
-ghost use Rattle.obda_run.specs.Run.{IsAnswer};
 ghost use Rattle.obda_run.specs.Status.{number_of};
+ghost use Rattle.obda_run.specs.Words.{IsAnswer, NamesCommand};
 ghost use Rattle.obda_run.specs.declared.status.Status.TheVariants.{Done, Usage, NoMemory, ReadFault, PrintFault, DiskFault, Damaged};
 
 mod status_line;
@@ -44,11 +44,13 @@ fn run<R: Read, F: Files + Print>(
     source: &mut StdSource<R>,
     host: &mut FolderHost<F>,
 ) -> Status
-    ensures usage { (result ≡ Usage) ↔ (IsAnswer (map string_bytes words.now.items) → ⊥) }
-    ensures usage_reads_nothing { result ≡ Usage → source.new ≡ source.old }
-    ensures silent { result ≢ Done → result ≢ PrintFault → host.new ≡ host.old }
+    ensures usage { (result ≡ Usage) ↔ (NamesCommand (map string_bytes words.now.items) → ⊥) }
+    ensures usage_touches_nothing { result ≡ Usage → (source.new ≡ source.old) × (host.new ≡ host.old) }
+    ensures silent { IsAnswer (map string_bytes words.now.items) → result ≢ Done → result ≢ PrintFault → host.new ≡ host.old }
     ensures read_fault { result ≡ ReadFault → Rose source.old.read_faults source.new.read_faults }
+    ensures read_fault_ends { source.old.read_faults < source.new.read_faults → result ≡ ReadFault }
     ensures print_fault { result ≡ PrintFault → Rose host.old.print_faults host.new.print_faults }
+    ensures print_fault_ends { host.old.print_faults < host.new.print_faults → result ≡ PrintFault }
     ensures no_disk_fault { result ≢ DiskFault }
     ensures no_damage { (area at : ℕ) → result ≢ Damaged area at }
 {

@@ -1,7 +1,2 @@
+pub mod Words
 pub mod Status
-pub mod Document
-pub mod Facts
-pub mod Sound
-pub mod Drafting
-pub mod Run
-pub mod DocumentLaws

@@ -1,5 +1,7 @@
--- The exit status of each ending.
+-- The status of each ending, and its number.
 use Rattle.std.specs.Prelude.{ℕ}
+use Rattle.document_run.specs.declared.ending.DocumentEnding.{DocumentEnding}
+use Rattle.document_run.specs.declared.ending.DocumentEnding.TheVariants as document
 use Rattle.obda_run.specs.declared.status.Status.{Status}
 use Rattle.obda_run.specs.declared.status.Status.TheVariants.{Done, Refused, Usage, ReadFault, PrintFault, DiskFault, Damaged, NoMemory, InputTooLarge}
 
@@ -13,3 +15,12 @@ number_of DiskFault = 5
 number_of (Damaged area at) = 6
 number_of NoMemory = 7
 number_of InputTooLarge = 8
+
+-- the status of a document's ending
+abbrev pub document_status : DocumentEnding → Status
+document_status document.Done = Done
+document_status (document.Refused code line) = Refused code line
+document_status document.ReadFault = ReadFault
+document_status document.PrintFault = PrintFault
+document_status document.NoMemory = NoMemory
+document_status document.InputTooLarge = InputTooLarge

@@ -1,18 +1,11 @@
 //! The top call of the ontology database.
 #![tactic(auto)]
 
-mod answers;
 mod command;
-mod document;
-#[cfg(test)]
-mod documents;
-mod facts;
-mod input;
-pub mod laws;
-mod reason;
+mod serving;
 mod status;
 #[cfg(test)]
 mod tests;
 
-pub use command::serve;
+pub use serving::serve;
 pub use status::Status;

@@ -1,6 +1,8 @@
 //! How a call of `serve` ends.
 ghost use Rattle.std.specs.Prelude.{◌≡◌};
-ghost use Rattle.obda_run.specs.Status.{number_of};
+ghost use Rattle.obda_run.specs.Status.{document_status, number_of};
+
+use document_run::DocumentEnding;
 
 /// How a call of `serve` ends, in the order of the exit statuses from 0.
 #[derive(Clone, Copy, Debug, PartialEq, Eq)]
@@ -40,6 +42,20 @@ impl Status {
             Status::Damaged { .. } => 6,
             Status::NoMemory => 7,
             Status::InputTooLarge => 8,
+        }
+    }
+
+    /// How a document's run ended.
+    pub(crate) fn of_document(ending: DocumentEnding) -> Status
+        ensures of { result ≡ document_status ending }
+    {
+        match ending {
+            DocumentEnding::Done => Status::Done,
+            DocumentEnding::Refused { code, line } => Status::Refused { code, line },
+            DocumentEnding::ReadFault => Status::ReadFault,
+            DocumentEnding::PrintFault => Status::PrintFault,
+            DocumentEnding::NoMemory => Status::NoMemory,
+            DocumentEnding::InputTooLarge => Status::InputTooLarge,
         }
     }
 }

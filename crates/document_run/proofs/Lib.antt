@@ -1,0 +1,13 @@
+pub mod ReasonLemmas
+pub mod OntologyLemmas
+pub mod QueryLemmas
+pub mod FactLemmas
+pub mod DraftLemmas
+pub mod LineTaking
+pub mod SoundLemmas
+pub mod DocumentLemmas
+pub mod ReasonDecisions
+pub mod MeaningLemmas
+pub mod InputLemmas
+pub mod EndingLemmas
+pub mod AnswerLemmas

@@ -1,0 +1,11 @@
+-- What a document has to be for its answers.
+use Rattle.std.specs.Prelude.{ℕ, ◌<◌, All, length}
+use Rattle.completion.specs.Numbered.{IsNamed, IsRowOf}
+use Rattle.query_shape.specs.ShapeFault.{IsKnown}
+use Rattle.document_run.specs.declared.document.Document.{Document}
+
+-- the rows are of concepts and roles of the ontology, and of individuals that have a name; and the ontology has the query's names
+pub record IsSoundDocument (document : Document) : Type 0 where
+  pub within : All (IsRowOf document.ontology) document.facts.rows
+  pub numbered : (n : ℕ) → IsNamed document.facts.rows n → n < length document.facts.individuals
+  pub known : All (IsKnown document.ontology) document.asked.atoms

@@ -1,0 +1,22 @@
+-- What a status tells of the ending that it is of.
+use Rattle.std.proofs.Common.{◌≡◌, ◌⊎◌, inl, inr, ℕ, refl, sym, ap, ◌∙◌}
+use Rattle.document_run.specs.declared.ending.DocumentEnding.{DocumentEnding}
+use Rattle.document_run.specs.declared.ending.DocumentEnding.TheVariants as document
+use Rattle.obda_run.specs.Status.{document_status}
+use Rattle.obda_run.specs.declared.status.Status.{Status}
+use Rattle.obda_run.specs.declared.status.Status.TheVariants as status
+
+pub refused_as : (code line : ℕ) (s : Status) (e : DocumentEnding) → s ≡ document_status e
+    → (e ≡ document.Refused code line) ⊎ (e ≡ document.ReadFault) ⊎ (e ≡ document.NoMemory)
+    → (s ≡ status.Refused code line) ⊎ (s ≡ status.ReadFault) ⊎ (s ≡ status.NoMemory)
+refused_as code line s e is (inl a) = inl (is ∙ ap document_status a)
+refused_as code line s e is (inr (inl a)) = inr (inl (is ∙ ap document_status a))
+refused_as code line s e is (inr (inr a)) = inr (inr (is ∙ ap document_status a))
+
+pub answered_as : (s : Status) (e : DocumentEnding) → s ≡ document_status e
+    → (e ≡ document.Done) ⊎ (e ≡ document.ReadFault) ⊎ (e ≡ document.PrintFault) ⊎ (e ≡ document.NoMemory)
+    → (s ≡ status.Done) ⊎ (s ≡ status.ReadFault) ⊎ (s ≡ status.PrintFault) ⊎ (s ≡ status.NoMemory)
+answered_as s e is (inl a) = inl (is ∙ ap document_status a)
+answered_as s e is (inr (inl a)) = inr (inl (is ∙ ap document_status a))
+answered_as s e is (inr (inr (inl a))) = inr (inr (inl (is ∙ ap document_status a)))
+answered_as s e is (inr (inr (inr a))) = inr (inr (inr (is ∙ ap document_status a)))

@@ -1,5 +1,0 @@
-use Rattle.obda_run.proofs.AnswerLemmas.{only_memory}
-use Rattle.obda_run.proofs.answers.bound_query.Goals as goal
-
-pub want_of_memory-requires : goal.want_of_memory-requires
-want_of_memory-requires c = only_memory c.args.document.now.ontology c.args.document.now.asked c.in-Err.error c.requires c.in-Err.ensures.err

@@ -1,5 +1,0 @@
-use Rattle.obda_run.proofs.DocumentLemmas as documents
-use Rattle.obda_run.proofs.laws.refused_once.Goals as goal
-
-pub returns : goal.returns
-returns c = documents.refused_once
