@@ -1,5 +1,5 @@
 -- Rows that come and go.
-use Rattle.std.proofs.Common.{◌≡◌, ◌≢◌, ◌↔◌, ◌⊎◌, ◌<◌, ◌≤◌, ◌+◌, inl, inr, ℕ, List, [], ◌∷◌, ◌++◌, Contains, get_or, length, take, refl, sym, ◌∙◌, ap, subst, arith}
+use Rattle.std.proofs.Common.{◌≡◌, ◌↔◌, ◌⊎◌, ◌<◌, ◌≤◌, ◌+◌, inl, inr, ℕ, List, [], ◌∷◌, ◌++◌, Contains, get_or, length, take, sym, ◌∙◌, ap, subst, arith}
 use Rattle.std.proofs.lemmas.List.{take_all, take_more}
 use Rattle.std.proofs.lemmas.List.Elements.{Contains-append_left, Contains-push}
 use Rattle.assert_tables.specs.Rows.{AreRisingRows, Gains, Loses}
@@ -20,12 +20,6 @@ has_row = member_or_not numbered_row_cmp numbered_total numbered_same
 
 none_here : (r : Row) → Contains [] r → ⊥
 none_here r c = omega (arith, c.1)
-
-pub no_difference : (come gone rows : List Row) → come ≡ [] → gone ≡ [] → IsDifference rows rows (record { come = come; gone = gone })
-no_difference come gone rows no_come no_gone = record {
-  come = λ r. (λ c. absurd (none_here r (subst (λ (xs : List Row). Contains xs r) no_come c)), λ both. absurd (both.1 both.0));
-  gone = λ r. (λ c. absurd (none_here r (subst (λ (xs : List Row). Contains xs r) no_gone c)), λ both. absurd (both.1 both.0));
-}
 
 -- rows that stay the same
 same_difference : (first old new : List Row) (d : Difference) → ((r : Row) → Contains new r ↔ Contains old r) → IsDifference first old d → IsDifference first new d

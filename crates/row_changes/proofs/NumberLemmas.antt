@@ -1,12 +1,11 @@
 -- Names of a book and of the newcomers behind it.
-use Rattle.std.proofs.Common.{◌≡◌, ◌≢◌, ◌⊎◌, ◌<◌, ◌≤◌, ◌+◌, inl, inr, ℕ, List, [], ◌∷◌, ◌++◌, AllPairs, Contains, Some, get_or, length, take, slice_get, refl, sym, ◌∙◌, ap, subst, arith, length-append}
-use Rattle.std.proofs.lemmas.List.{append-nil, append_assoc, get_or-append-add, get_or_append_left, get_or-take, get_or_default, length-take-le, take_all, take_more}
-use Rattle.std.proofs.lemmas.List.Elements.{Contains-append_cases, Contains-append_left, Contains-append_right}
+use Rattle.std.proofs.Common.{◌≡◌, ◌≢◌, ◌⊎◌, ◌<◌, ◌+◌, inl, inr, ℕ, List, [], ◌∷◌, ◌++◌, AllPairs, Contains, Some, get_or, length, take, slice_get, sym, ◌∙◌, ap, subst, arith, length-append}
+use Rattle.std.proofs.lemmas.List.{append_assoc, get_or-append-add, get_or_append_left, get_or-take, get_or_default, length-take-le, take_more}
+use Rattle.std.proofs.lemmas.List.Elements.{Contains-append_cases, Contains-append_right}
 use Rattle.std.proofs.lemmas.List.Quantifiers.{all_pairs_push}
 use Rattle.std.proofs.lemmas.Option.{get_or_from_slice_get, slice_get-get_or, slice_get_within}
 use Rattle.dl_base.specs.Book.{Interns}
 use Rattle.dl_base.specs.Rows.{name_cmp}
-use Rattle.dl_base.proofs.PlaceLemmas.{member_at, place_stays}
 use Rattle.dl_base.proofs.RowLemmas.{name_same, name_total}
 use Rattle.row_changes.proofs.Members.{member_or_not}
 
@@ -23,27 +22,13 @@ place_behind book new k x at =
 pub in_neither : (book new : List (List ℕ)) (x : List ℕ) → (Contains book x → ⊥) → (Contains new x → ⊥) → Contains (book ++ new) x → ⊥
 in_neither book new x not_book not_new c = elim (Contains-append_cases book new x c) [ inl b ↦ not_book b | inr n ↦ not_new n ]
 
--- a name that the book has
-pub interns_known : (book new : List (List ℕ)) (name : List ℕ) (n : ℕ) → slice_get book n ≡ Some name → Interns (book ++ new) name (book ++ new) n
-interns_known book new name n at = record {
-  there = place_stays book new n name at;
-  known = λ c. refl;
-  added = λ absent. absurd (absent (Contains-append_left book new name (member_at book n name at)));
-}
-
--- and one that it lacks
+-- a name that the book lacks
 pub interns_behind : (book old new : List (List ℕ)) (name : List ℕ) (k : ℕ) → (Contains book name → ⊥) → Interns old name new k → Interns (book ++ old) name (book ++ new) (length book + k)
 interns_behind book old new name k not_book interns = record {
   there = place_behind book new k name interns.there;
   known = λ c. elim (Contains-append_cases book old name c) [ inl b ↦ absurd (not_book b) | inr o ↦ ap (λ (xs : List (List ℕ)). book ++ xs) (interns.known o) ];
   added = λ absent. ap (λ (xs : List (List ℕ)). book ++ xs) (interns.added (λ o. absent (Contains-append_right book old name o))) ∙ sym (append_assoc book old (name ∷ []));
 }
-
-pub interned_length : (old new : List (List ℕ)) (name : List ℕ) (k : ℕ) → Interns old name new k → length new ≤ 1 + length old
-interned_length old new name k interns = elim (has_name old name) [
-  | inl c ↦ omega (arith, ap (λ (xs : List (List ℕ)). length xs) (interns.known c))
-  | inr absent ↦ omega (arith, ap (λ (xs : List (List ℕ)). length xs) (interns.added absent), length-append old (name ∷ []))
-]
 
 -- distinct names stay so
 pub interned_distinct : (old new : List (List ℕ)) (name : List ℕ) (k : ℕ) → AllPairs (λ x y. x ≢ y) old → Interns old name new k → AllPairs (λ x y. x ≢ y) new
@@ -80,6 +65,3 @@ newcomer_taken book new mid now i name id distinct at is interns =
     let absent : Contains mid name → ⊥ = λ c. not_among book new i name distinct at (subst (λ (xs : List (List ℕ)). Contains xs name) is c) in
     let more : take (i + 1) new ≡ take i new ++ name ∷ [] = take_more new i name (slice_get_within new i name at) ∙ ap (λ (x : List ℕ). take i new ++ x ∷ []) (get_or_from_slice_get new i name name at) in
     interns.added absent ∙ (ap (λ (xs : List (List ℕ)). xs ++ name ∷ []) is ∙ (append_assoc book (take i new) (name ∷ []) ∙ ap (λ (xs : List (List ℕ)). book ++ xs) (sym more)))
-
-pub newcomers_all : (book new now : List (List ℕ)) (i : ℕ) → length new ≤ i → now ≡ book ++ take i new → now ≡ book ++ new
-newcomers_all book new now i over is = is ∙ ap (λ (xs : List (List ℕ)). book ++ xs) (take_all i new over)

@@ -1,4 +1,4 @@
-use Rattle.std.proofs.Common.{◌+◌, ◌++◌, ℕ, List, Contains, arith, subst, sym}
+use Rattle.std.proofs.Common.{◌+◌, ◌++◌, ℕ, Contains, subst, sym}
 use Rattle.dl_base.specs.Book.{Interns}
 use Rattle.row_changes.proofs.NumberLemmas.{interned_distinct, interns_behind}
 use Rattle.row_changes.proofs.numbers.intern.Goals as goal

@@ -1,5 +1,4 @@
 use Rattle.std.proofs.Common.{List, subst}
-use Rattle.base_store.specs.Loading.{IsListOf}
 use Rattle.dl_base.specs.declared.row.Row.{Row}
 use Rattle.row_changes.specs.Difference.{AddsEach, RemovesEach}
 use Rattle.row_changes.proofs.DifferenceLemmas.{put_back}
