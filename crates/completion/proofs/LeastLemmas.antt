@@ -1,10 +1,9 @@
 -- Least elements of several kinds.
-use Rattle.std.proofs.Common.{◌≡◌, ◌≢◌, ℕ, ◌⊎◌, inl, inr, [], Option, Some, None, refl, ◌∙◌, ap, subst, arith}
-use Rattle.std.specs.declared.cmp.Ordering.TheVariants.{Less, Greater}
-use Rattle.std.specs.Ordering.{ordering_reverse}
+use Rattle.std.proofs.Common.{◌≢◌, ℕ, ◌⊎◌, inl, inr, [], Option, Some, None, refl, subst, arith}
+use Rattle.std.specs.declared.cmp.Ordering.TheVariants.{Greater}
 use Rattle.dl_base.specs.Tables.{AreCounted, IsAbove, IsLeastAbove, elem_cmp}
 use Rattle.dl_base.specs.declared.element.Elem.{Elem}
-use Rattle.dl_base.proofs.ElemLemmas.{elem_total, upto_trans}
+use Rattle.dl_base.proofs.ElemLemmas.{upto_trans}
 use Rattle.completion.specs.Least.{IsLesser, IsUpTo}
 
 -- what is true of the same elements has the same least one, and as many
@@ -23,12 +22,6 @@ counted_as P Q count into back counted = record {
 -- nothing above of what there is none of
 pub least_of_none : (P : Elem → Type 0) (after : Option Elem) → ((e : Elem) → P e → ⊥) → IsLeastAbove P after None
 least_of_none P after none = λ e p above. none e p
-
-flipped : (x z : Elem) → elem_cmp x z ≡ Greater → elem_cmp z x ≡ Less
-flipped x z e = elem_total.antisymm z x ∙ ap ordering_reverse e
-
-more_of : (x z : Elem) → elem_cmp x z ≡ Less → elem_cmp z x ≡ Greater
-more_of x z e = elem_total.antisymm z x ∙ ap ordering_reverse e
 
 -- the lesser of two least ones is the least of both kinds
 module _ (P Q : Elem → Type 0) (after : Option Elem) where

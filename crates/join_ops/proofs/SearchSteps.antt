@@ -149,12 +149,6 @@ past_step table atoms sources images d n level search found below shared =
     same : (others : List Elem) → length others ≡ length images → take n others ≡ take (suc level) others
     same others long = shared_take n (suc level) others (elim shared [ inl e ↦ inl e | inr h ↦ inr (h.0 ∙ sym long, h.1) ])
 
--- no images are above others in none of them
-pub past_none : (table : List TableRow) (atoms : List ShapeAtom) (fixed : List (Option ℕ)) (images : List Elem) (n : ℕ) → n ≡ 0
-    → (others : List Elem) → IsFound table atoms fixed others → IsBehind (Past n images) others → ⊥
-past_none table atoms fixed images zero none others found behind = absurd cc
-past_none table atoms fixed images (suc n) none others found behind = omega (arith, none)
-
 either_most : (n m : ℕ) → (n ≤ m) ⊎ (m ≤ n)
 either_most zero m = inl (omega arith)
 either_most (suc n) zero = inr (omega arith)
