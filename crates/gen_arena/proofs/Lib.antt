@@ -1,0 +1,4 @@
+pub mod ListLemmas
+pub mod StoreLemmas
+pub mod ArenaLemmas
+pub mod LawLemmas
