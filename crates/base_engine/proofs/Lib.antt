@@ -8,7 +8,5 @@ pub mod SmallSteps
 pub mod SmallGenerations
 pub mod Outcomes
 pub mod AlikeSteps
-pub mod StandsForLemmas
 pub mod RunLemmas
 pub mod Generations
-pub mod LoadLemmas

@@ -8,10 +8,10 @@ use Rattle.std.specs.declared.cmp.Ordering.TheVariants.{Less, Equal, Greater}
 use Rattle.std.specs.Ordering.{match_ordering}
 use Rattle.std.proofs.lemmas.Cmp.{tied_itself}
 use Rattle.dl_base.specs.Numbers.{names_in}
-use Rattle.dl_base.specs.Rows.{AreIndividuals, AreRows, Names, name_cmp, row_cmp}
+use Rattle.dl_base.specs.Rows.{AreIndividuals, AreRows, name_cmp, row_cmp}
 use Rattle.dl_base.specs.declared.row.NamedRow.{NamedRow}
-use Rattle.dl_base.specs.declared.row.NamedRow.TheVariants as row
 use Rattle.dl_base.specs.declared.row.NamedChange.{NamedChange}
+use Rattle.dl_base.proofs.IndividualLemmas.{names_row, row_names}
 use Rattle.dl_base.proofs.PlaceLemmas.{flat_there, flat_part}
 use Rattle.dl_base.proofs.RisingLemmas.{contains_cases, contains_first, contains_later, placed, placed_adds, placed_rises, same_rising}
 use Rattle.dl_base.proofs.RowLemmas.{name_same, name_total, none_rising, row_same, row_total}
@@ -197,18 +197,6 @@ into_ordered (x ∷ xs) z c = elim (contains_cases x xs z c) [
 
 abbrev pub names_of : List NamedRow → List (List ℕ)
 names_of rows = ordered (flat_map names_in rows)
-
-names_row : (r : NamedRow) (a : List ℕ) → Contains (names_in r) a → Names a r
-names_row (row.Concept c x) a there = elim (contains_cases x [] a there) [ inl e ↦ e | inr d ↦ absurd (omega (arith, d.1)) ]
-names_row (row.Role p x y) a there = elim (contains_cases x (y ∷ []) a there) [
-  | inl e ↦ inl e
-  | inr d ↦ elim (contains_cases y [] a d) [ inl e ↦ inr e | inr f ↦ absurd (omega (arith, f.1)) ]
-]
-
-row_names : (r : NamedRow) (a : List ℕ) → Names a r → Contains (names_in r) a
-row_names (row.Concept c x) a e = subst (λ (z : List ℕ). Contains (x ∷ []) z) (sym e) (contains_first x [])
-row_names (row.Role p x y) a (inl e) = subst (λ (z : List ℕ). Contains (x ∷ y ∷ []) z) (sym e) (contains_first x (y ∷ []))
-row_names (row.Role p x y) a (inr e) = subst (λ (z : List ℕ). Contains (x ∷ y ∷ []) z) (sym e) (contains_later x (y ∷ []) y (contains_first y []))
 
 pub names_are : (rows : List NamedRow) → AreIndividuals rows (names_of rows)
 names_are rows = record {

@@ -6,7 +6,7 @@ pub mod StepLaws
 pub mod RefusalLaws
 pub mod StepExamples
 pub mod GenerationExamples
-pub mod Base
 pub mod Calls
 pub mod Alike
 pub mod RunLaws
+pub mod Faults

@@ -1,4 +1,4 @@
-//! The contracts of a base's calls. Nothing implements them yet.
+//! The contracts of a base's calls.
 
 ghost use Rattle.std.specs.Prelude.{◌≡◌, ◌≤◌, ◌<◌, ◌+◌, ◌⊎◌, ℕ, Option, Some, None, IfOk, IsErrOf, Err};
 ghost use Rattle.std.specs.Option.{ForSome};

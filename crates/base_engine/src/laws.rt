@@ -1,7 +1,6 @@
 //! Laws of the machine: public functions with no parameters, whose contracts are the laws.
 
 ghost use Rattle.base_engine.specs.Alike.{AlikeStepAlike};
-ghost use Rattle.base_engine.specs.Base.{StandsForAlike};
 ghost use Rattle.base_engine.specs.GenerationExamples.{BeginsAfresh, RisesWhereLive, StaysWhereDead};
 ghost use Rattle.base_engine.specs.RefusalLaws.{AbortRefusals, AskRefusals, BeginRefusals, BlockRefusals, ChangeRefusals, CommitRefusals, LineRefusals, OntologyRefusals, OthersAccepted};
 ghost use Rattle.base_engine.specs.RunLaws.{AsManyReplies, NoneOpenAbove, OthersLeaveHistory, OthersLeaveState, StepsGoOn};
@@ -41,11 +40,6 @@ pub fn accepted_steps()
 /// A step looks at a history through its ontology, its rows, its number of transactions and its length alone.
 pub fn alike_step_alike()
     ensures { AlikeStepAlike }
-{}
-
-/// The states that a base stands for are those that are alike to one of them.
-pub fn stands_for_alike()
-    ensures { StandsForAlike }
 {}
 
 /// A step leaves an ontology within the limits.
