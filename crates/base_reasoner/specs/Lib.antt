@@ -1,0 +1,3 @@
+pub mod Reasoned
+pub mod Questions
+pub mod Renewal
