@@ -1,0 +1,16 @@
+pub mod StandsForLemmas
+pub mod SessionLemmas
+pub mod DecidedRefusals
+pub mod SoundBases
+pub mod QuestionReplies
+pub mod LoadedBases
+pub mod OpenedBases
+pub mod CommitRows
+pub mod CommittedBases
+pub mod LoadLemmas
+pub mod KeptHosts
+pub mod CommitHosts
+pub mod SteppedBases
+pub mod TakenBlocks
+pub mod ContentsLemmas
+pub mod HandedFaults
