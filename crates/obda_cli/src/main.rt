@@ -5,7 +5,7 @@ ghost use Rattle.std.specs.Prelude.{◌≡◌, ◌≢◌, ◌<◌, ◌↔◌, �
 ghost use Rattle.std.specs.Process.{exit_status};
 ghost use Rattle.host_io.specs.Causes.{Rose};
 ghost use Rattle.obda_run.specs.Status.{number_of};
-ghost use Rattle.obda_run.specs.Words.{IsAnswer, NamesCommand};
+ghost use Rattle.obda_run.specs.Words.{NamesAnswer, NamesRun, NamesCommand};
 ghost use Rattle.obda_run.specs.declared.status.Status.TheVariants.{Done, Usage, NoMemory, ReadFault, PrintFault, DiskFault, Damaged};
 
 mod status_line;
@@ -37,7 +37,7 @@ fn main(rt: HostRuntime) -> ExitCode {
     exit_code(status)
 }
 
-/// Runs the command that these words name. The host is called for a reply alone: each other ending leaves it as it was.
+/// Runs the command that these words name. Other words touch nothing, and a document's run calls the host for its reply alone.
 fn run<R: Read, F: Files + Print>(
     alloc: Global,
     words: &Vec<String>,
@@ -46,13 +46,14 @@ fn run<R: Read, F: Files + Print>(
 ) -> Status
     ensures usage { (result ≡ Usage) ↔ (NamesCommand (map string_bytes words.now.items) → ⊥) }
     ensures usage_touches_nothing { result ≡ Usage → (source.new ≡ source.old) × (host.new ≡ host.old) }
-    ensures silent { IsAnswer (map string_bytes words.now.items) → result ≢ Done → result ≢ PrintFault → host.new ≡ host.old }
+    ensures answer_silent { NamesAnswer (map string_bytes words.now.items) → result ≢ Done → result ≢ PrintFault → host.new ≡ host.old }
     ensures read_fault { result ≡ ReadFault → Rose source.old.read_faults source.new.read_faults }
     ensures read_fault_ends { source.old.read_faults < source.new.read_faults → result ≡ ReadFault }
     ensures print_fault { result ≡ PrintFault → Rose host.old.print_faults host.new.print_faults }
     ensures print_fault_ends { host.old.print_faults < host.new.print_faults → result ≡ PrintFault }
-    ensures no_disk_fault { result ≢ DiskFault }
-    ensures no_damage { (area at : ℕ) → result ≢ Damaged area at }
+    ensures disk_fault { result ≡ DiskFault → Rose host.old.disk_faults host.new.disk_faults }
+    ensures runs { result ≡ DiskFault → NamesRun (map string_bytes words.now.items) }
+    ensures damaged_runs { (area at : ℕ) → result ≡ Damaged area at → NamesRun (map string_bytes words.now.items) }
 {
     serve(alloc, words, source, host)
 }

@@ -2,6 +2,8 @@
 #![tactic(auto)]
 
 mod command;
+#[cfg(test)]
+mod scripts;
 mod serving;
 mod status;
 #[cfg(test)]

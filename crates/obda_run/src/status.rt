@@ -1,8 +1,9 @@
 //! How a call of `serve` ends.
-ghost use Rattle.std.specs.Prelude.{◌≡◌};
-ghost use Rattle.obda_run.specs.Status.{document_status, number_of};
+ghost use Rattle.std.specs.Prelude.{◌≡◌, ℕ};
+ghost use Rattle.obda_run.specs.Status.{document_status, number_of, script_status};
 
 use document_run::DocumentEnding;
+use run_loop::Ending;
 
 /// How a call of `serve` ends, in the order of the exit statuses from 0.
 #[derive(Clone, Copy, Debug, PartialEq, Eq)]
@@ -56,6 +57,21 @@ impl Status {
             DocumentEnding::PrintFault => Status::PrintFault,
             DocumentEnding::NoMemory => Status::NoMemory,
             DocumentEnding::InputTooLarge => Status::InputTooLarge,
+        }
+    }
+
+    /// How a script's run ended.
+    pub(crate) fn of_script(ending: Ending) -> Status
+        ensures of { result ≡ script_status ending }
+    {
+        match ending {
+            Ending::Done => Status::Done,
+            Ending::ReadFault => Status::ReadFault,
+            Ending::PrintFault => Status::PrintFault,
+            Ending::DiskFault => Status::DiskFault,
+            Ending::Damaged { area, at } => Status::Damaged { area, at },
+            Ending::NoMemory => Status::NoMemory,
+            Ending::InputTooLarge => Status::InputTooLarge,
         }
     }
 }
