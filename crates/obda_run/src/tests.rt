@@ -134,10 +134,10 @@ fn replies() -> &'static [u8] {
 
 // How many commits are acknowledged in what was printed.
 fn acknowledged(printed: &[u8]) -> u64 {
-    let mut count = 0;
+    let mut count: u64 = 0;
     for line in printed.split(|byte| *byte == b'\n') {
         if line.starts_with(b"ok 1 ") || line.starts_with(b"ok 2 ") {
-            count += 1;
+            count = count.wrapping_add(1);
         }
     }
     count
@@ -149,7 +149,7 @@ fn goes_on(alloc: Global, area: &[u8], printed: &[u8]) -> Result<bool, Fail> {
     let status = run_script(alloc, b"reopen\n", &mut host)?;
     let count = acknowledged(printed);
     let same = format!(in alloc; "ok reopen {count}\n")?;
-    let more = format!(in alloc; "ok reopen {}\n", count + 1)?;
+    let more = format!(in alloc; "ok reopen {}\n", count.wrapping_add(1))?;
     let found = host.printed().items();
     Ok(status == Status::Done && (found == same.as_bytes() || found == more.as_bytes()))
 }
