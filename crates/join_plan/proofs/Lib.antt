@@ -1,0 +1,4 @@
+pub mod ChoiceLemmas
+pub mod PlanLemmas
+pub mod LawLemmas
+pub mod SmallPlans
