@@ -112,15 +112,19 @@ IsReplyShown o (Answers keys) shown.Done = ⊥
 IsReplyShown o (Answers keys) (shown.Committed number added removed) = ⊥
 IsReplyShown o (Answers keys) (shown.Loaded inclusions) = ⊥
 IsReplyShown o (Answers keys) (shown.Reopened transactions) = ⊥
+IsReplyShown o (Answers keys) (shown.Prepared h) = ⊥
 IsReplyShown o (Answers keys) shown.Consistent = ⊥
 IsReplyShown o (Answers keys) (shown.Inconsistent c) = ⊥
+IsReplyShown o (Answers keys) (shown.Table lines) = ⊥
 IsReplyShown o (Answers keys) (shown.Error e) = ⊥
 IsReplyShown o (Inconsistent p) shown.Done = ⊥
 IsReplyShown o (Inconsistent p) (shown.Committed number added removed) = ⊥
 IsReplyShown o (Inconsistent p) (shown.Loaded inclusions) = ⊥
 IsReplyShown o (Inconsistent p) (shown.Reopened transactions) = ⊥
+IsReplyShown o (Inconsistent p) (shown.Prepared h) = ⊥
 IsReplyShown o (Inconsistent p) (shown.Answers keys) = ⊥
 IsReplyShown o (Inconsistent p) shown.Consistent = ⊥
+IsReplyShown o (Inconsistent p) (shown.Table lines) = ⊥
 IsReplyShown o (Inconsistent p) (shown.Error e) = ⊥
 
 -- it is the reply to the document of these lines

@@ -35,7 +35,12 @@ pub fn ack_bytes(reply: &Reply, buf: &mut [u8; 80]) -> usize
             let at = put_number(*transactions, buf, at);
             put(b"\n", buf, at)
         }
-        Reply::Answers(_) | Reply::Consistent | Reply::Inconsistent(_) | Reply::Error(_) => 0,
+        Reply::Prepared(_)
+        | Reply::Answers(_)
+        | Reply::Consistent
+        | Reply::Inconsistent(_)
+        | Reply::Table(_)
+        | Reply::Error(_) => 0,
     }
 }
 

@@ -1,7 +1,9 @@
 //! What a script's requests are answered with.
 
+use crate::table_line::TableLines;
 use axiom_reader::BlockError;
 use dl_base::{Clash, Keys, Name};
+use gen_arena::Handle;
 
 /// The reply to a request.
 #[derive(Debug, Drop)]
@@ -27,12 +29,16 @@ pub enum Reply {
         /// How many transactions it has.
         transactions: u64,
     },
+    /// The query is kept under the handle.
+    Prepared(Handle),
     /// The answers of a query.
     Answers(Keys),
     /// The base has no clash.
     Consistent,
     /// The base's first clash.
     Inconsistent(Clash),
+    /// The completed tables.
+    Table(TableLines),
     /// The request was refused, and nothing changed.
     Error(Refusal),
 }
@@ -64,10 +70,14 @@ pub enum Refusal {
     Crowded,
     /// 12: the log has no room for it.
     LogFull,
+    /// 13: the handle was never given.
+    NeverGiven,
+    /// 14: the query of the handle was dropped. The last generation of the handle's slot.
+    Dropped(u64),
+    /// 15: no slot is left for a prepared query.
+    NoSlot,
     /// 16: the query has more than 24 atoms, distinct terms or answer places.
     QueryTooLarge,
     /// 17: this is the first answer variable that is in no atom, without its `?`.
     UnsafeVariable(Name),
-    /// 99: the command isn't built yet.
-    Unbuilt,
 }

@@ -2,6 +2,7 @@
 use super::*;
 use axiom_reader::{BlockCause, BlockError};
 use dl_base::{Clash, Items, Name, NamedRole};
+use gen_arena::Handle;
 use std::alloc::{AllocError, Global};
 use std::test::Fail;
 
@@ -40,6 +41,20 @@ fn clash(alloc: Global, names: &[&[u8]]) -> Result<Reply, AllocError> {
     }))
 }
 
+fn table(alloc: Global, texts: &[&[u8]]) -> Result<Reply, AllocError> {
+    let mut lines = Items::new(alloc);
+    for text in texts {
+        lines.push(TableLine::new(Vec::from_slice(alloc, text)?))?;
+    }
+    Ok(Reply::Table(lines))
+}
+
+// The last handle that may be given.
+const LAST: Handle = Handle {
+    slot: 255,
+    generation: u64::MAX,
+};
+
 fn blocked(line: u64, cause: BlockCause) -> Reply {
     Reply::Error(Refusal::Block(BlockError { line, cause }))
 }
@@ -66,7 +81,18 @@ fn replies(alloc: Global) -> Result<Vec<(Reply, &'static [u8])>, AllocError> {
     all.push((Reply::Error(concept), b"error 6 Cat\n"))?;
     let variable = Refusal::UnsafeVariable(named(alloc, b"x")?);
     all.push((Reply::Error(variable), b"error 17 ?x\n"))?;
-    all.push((Reply::Error(Refusal::Unbuilt), b"error 99\n"))?;
+    all.push((Reply::Error(Refusal::NeverGiven), b"error 13\n"))?;
+    all.push((Reply::Error(Refusal::Dropped(2)), b"error 14 2\n"))?;
+    all.push((Reply::Error(Refusal::NoSlot), b"error 15\n"))?;
+    all.push((
+        Reply::Prepared(LAST),
+        b"prepared 255.18446744073709551615\n",
+    ))?;
+    all.push((Reply::Table(Items::new(alloc)), b"end 0\n"))?;
+    all.push((
+        table(alloc, &[b"witness r 1", b"role r a *r"])?,
+        b"witness r 1\nrole r a *r\nend 2\n",
+    ))?;
     Ok(all)
 }
 

@@ -3,13 +3,15 @@ ghost use Rattle.std.specs.Prelude.{◌≡◌, ◌++◌, [], ◌∷◌, map, OnO
 ghost use Rattle.std.specs.List.{flat_map};
 ghost use Rattle.std.specs.Fmt.{decimal};
 ghost use Rattle.reply_text.specs.Extending.{Extends};
-ghost use Rattle.reply_text.specs.ReplyText.{IsAcknowledgement, answers_text, behind_spaces, cause_word, clash_text, error_number, error_text, error_words, key_line, path_words, role_text, text_of_reply};
+ghost use Rattle.reply_text.specs.ReplyText.{IsAcknowledgement, answers_text, behind_spaces, cause_word, clash_text, end_line, ended_line, error_number, error_text, error_words, key_line, path_words, prepared_text, role_text, table_text, text_of_reply};
 
 use crate::ack::ack_bytes;
 use crate::reply::{Refusal, Reply};
 use crate::size::size_hint;
+use crate::table_line::TableLine;
 use axiom_reader::{BlockCause, BlockError};
 use dl_base::{Clash, Key, NamedRole};
+use gen_arena::Handle;
 use itoa::Buffer;
 use std::alloc::AllocError;
 
@@ -32,9 +34,11 @@ fn append_reply(reply: &Reply, out: &mut Vec<u8>) -> Result<(), AllocError>
     ensures more { OnErr result (Extends out.old.items out.new.items) }
 {
     match reply {
+        Reply::Prepared(handle) => append_prepared(*handle, out),
         Reply::Answers(keys) => append_answers(keys.items(), out),
         Reply::Consistent => out.extend_from_slice(b"consistent\n"),
         Reply::Inconsistent(clash) => append_clash(clash, out),
+        Reply::Table(lines) => append_table(lines.items(), out),
         Reply::Error(refusal) => append_error(refusal, out),
         Reply::Done | Reply::Committed { .. } | Reply::Loaded { .. } | Reply::Reopened { .. } =>
             append_ack(reply, out),
@@ -69,14 +73,36 @@ fn append_number(number: u64, out: &mut Vec<u8>) -> Result<(), AllocError>
     append_word(buffer.format(number).as_bytes(), out)
 }
 
+/// The line of a handle: the number of its slot and its generation, with a point between them.
+fn append_prepared(handle: Handle, out: &mut Vec<u8>) -> Result<(), AllocError>
+    ensures written { OnOk result (out.new.items ≡ out.old.items ++ prepared_text handle) }
+    ensures more { OnErr result (Extends out.old.items out.new.items) }
+{
+    out.extend_from_slice(b"prepared")?;
+    append_number(handle.slot as u64, out)?;
+    out.push(b'.')?;
+    let mut buffer = Buffer::new();
+    out.extend_from_slice(buffer.format(handle.generation).as_bytes())?;
+    out.push(b'\n')?;
+    Ok(())
+}
+
 /// A line for each key, and one with their number.
 fn append_answers(keys: &[Key], out: &mut Vec<u8>) -> Result<(), AllocError>
     ensures written { OnOk result (out.new.items ≡ out.old.items ++ answers_text keys.now) }
     ensures more { OnErr result (Extends out.old.items out.new.items) }
 {
     append_keys(keys, out)?;
+    append_end(keys.len() as u64, out)
+}
+
+/// The line that ends a reply: the number of lines before it.
+fn append_end(count: u64, out: &mut Vec<u8>) -> Result<(), AllocError>
+    ensures written { OnOk result (out.new.items ≡ out.old.items ++ end_line count) }
+    ensures more { OnErr result (Extends out.old.items out.new.items) }
+{
     out.extend_from_slice(b"end")?;
-    append_number(keys.len() as u64, out)?;
+    append_number(count, out)?;
     out.push(b'\n')?;
     Ok(())
 }
@@ -102,6 +128,37 @@ fn append_key(key: &Key, out: &mut Vec<u8>) -> Result<(), AllocError>
     for name in key.items() {
         append_word(name.bytes(), out)?;
     }
+    out.push(b'\n')?;
+    Ok(())
+}
+
+/// The lines of tables, and one with their number.
+fn append_table(lines: &[TableLine], out: &mut Vec<u8>) -> Result<(), AllocError>
+    ensures written { OnOk result (out.new.items ≡ out.old.items ++ table_text lines.now) }
+    ensures more { OnErr result (Extends out.old.items out.new.items) }
+{
+    append_lines(lines, out)?;
+    append_end(lines.len() as u64, out)
+}
+
+/// The lines of tables, each with its end.
+#[tactic(auto, using(crate::proofs::ExtendingRules::extends_further))]
+fn append_lines(lines: &[TableLine], out: &mut Vec<u8>) -> Result<(), AllocError>
+    ensures written { OnOk result (out.new.items ≡ out.old.items ++ flat_map ended_line lines.now) }
+    ensures more { OnErr result (Extends out.old.items out.new.items) }
+{
+    for line in lines {
+        append_line(line, out)?;
+    }
+    Ok(())
+}
+
+/// A line of tables, with its end.
+fn append_line(line: &TableLine, out: &mut Vec<u8>) -> Result<(), AllocError>
+    ensures written { OnOk result (out.new.items ≡ out.old.items ++ ended_line line.now) }
+    ensures more { OnErr result (Extends out.old.items out.new.items) }
+{
+    out.extend_from_slice(line.text())?;
     out.push(b'\n')?;
     Ok(())
 }
@@ -185,9 +242,11 @@ fn error_number(refusal: &Refusal) -> u64
         Refusal::Pending => 10,
         Refusal::Crowded => 11,
         Refusal::LogFull => 12,
+        Refusal::NeverGiven => 13,
+        Refusal::Dropped(_) => 14,
+        Refusal::NoSlot => 15,
         Refusal::QueryTooLarge => 16,
         Refusal::UnsafeVariable(_) => 17,
-        Refusal::Unbuilt => 99,
     }
 }
 
@@ -197,7 +256,7 @@ fn append_error_words(refusal: &Refusal, out: &mut Vec<u8>) -> Result<(), AllocE
     ensures more { OnErr result (Extends out.old.items out.new.items) }
 {
     match refusal {
-        Refusal::Syntax(place) => append_number(*place, out),
+        Refusal::Syntax(number) | Refusal::Dropped(number) => append_number(*number, out),
         Refusal::Block(error) => append_block_error(error, out),
         Refusal::UnknownConcept(name) | Refusal::UnknownRole(name) => {
             append_word(name.bytes(), out)
@@ -214,8 +273,9 @@ fn append_error_words(refusal: &Refusal, out: &mut Vec<u8>) -> Result<(), AllocE
         | Refusal::Pending
         | Refusal::Crowded
         | Refusal::LogFull
-        | Refusal::QueryTooLarge
-        | Refusal::Unbuilt => Ok(()),
+        | Refusal::NeverGiven
+        | Refusal::NoSlot
+        | Refusal::QueryTooLarge => Ok(()),
     }
 }
 

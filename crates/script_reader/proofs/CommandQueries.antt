@@ -64,10 +64,10 @@ asks_command =
     asks_or a_command _ (asks_or (with_row (codes "add") tree.Add) _ (asks_form _ (λ x. tree.Add x.0 x.1) (λ v. refl)) (asks_or (with_session (codes "abort") tree.Abort) _ (asks_form _ tree.Abort (λ v. refl)) (asks_query (codes "ask") tree.Ask (λ q. refl))))
     (asks_or (with_session (codes "begin") tree.Begin) _ (asks_form _ tree.Begin (λ v. refl))
     (asks_or c_command _ (asks_or (with_session (codes "commit") tree.Commit) _ (asks_form _ tree.Commit (λ v. refl)) (asks_form _ (λ _. tree.Check) (λ v. refl)))
-    (asks_or d_command _ (asks_or (with_row (codes "del") tree.Del) _ (asks_form _ (λ x. tree.Del x.0 x.1) (λ v. refl)) (asks_form _ (λ _. tree.Drop) (λ v. refl)))
+    (asks_or d_command _ (asks_or (with_row (codes "del") tree.Del) _ (asks_form _ (λ x. tree.Del x.0 x.1) (λ v. refl)) (asks_form _ tree.Drop (λ v. refl)))
     (asks_or (alone (codes "ontology") tree.Ontology) _ (asks_form _ (λ _. tree.Ontology) (λ v. refl))
     (asks_or (with_query (codes "prepare") tree.Prepare) _ (asks_query (codes "prepare") tree.Prepare (λ q. refl))
-    (asks_or r_command t_command (asks_or (with_handle (codes "run") tree.Run) _ (asks_form _ (λ _. tree.Run) (λ v. refl)) (asks_form _ (λ _. tree.Reopen) (λ v. refl)))
+    (asks_or r_command t_command (asks_or (with_handle (codes "run") tree.Run) _ (asks_form _ tree.Run (λ v. refl)) (asks_form _ (λ _. tree.Reopen) (λ v. refl)))
     (asks_or (alone (codes "tables") tree.Tables) _ (asks_form _ (λ _. tree.Tables) (λ v. refl)) (asks_form _ (λ _. tree.Tidy) (λ v. refl)))))))))
 
 asks_line : Asks script_line

@@ -19,6 +19,7 @@ use Rattle.dl_base.specs.Names.{IsWord, name}
 use Rattle.dl_base.specs.Query.{Question}
 use Rattle.dl_base.proofs.NameRules.{first_name, reads_name}
 use Rattle.dl_base.specs.declared.row.NamedRow.{NamedRow}
+use Rattle.gen_arena.specs.declared.handle.Handle.{Handle}
 use Rattle.dl_base.specs.declared.row.NamedRow.TheVariants as row
 use Rattle.cq_reader.proofs.QueryRules.{reads_query_and_blanks}
 use Rattle.script_reader.specs.DocLines.{concept_row_text, role_row_text}
@@ -149,9 +150,9 @@ unfolding handle_and_blanks_at
 reads_handle =
     reads_any _ reads_literal (λ _ rest.
     reads_stop _ reads_some_blanks (λ _. first_then (first_number (omega arith) digit_not_blank)) (λ _ rest.
-    reads_stop _ (reads_number (2 ^ 32 - 1) (omega arith)) (λ _. first_literal_is refl) (λ _ rest.
+    reads_stop _ (reads_number (2 ^ 32 - 1) (omega arith)) (λ _. first_literal_is refl) (λ slot rest.
     reads_any _ reads_literal (λ _ rest.
-    reads_stop _ (reads_number (2 ^ 64 - 1) (omega arith)) (λ _. first_blanks (blank_not is_digit refl refl) (λ _. first_nothing)) (λ _ rest.
+    reads_stop _ (reads_number (2 ^ 64 - 1) (omega arith)) (λ _. first_blanks (blank_not is_digit refl refl) (λ _. first_nothing)) (λ generation rest.
     reads_stop _ reads_blanks (λ _. first_nothing) (λ _ rest.
     reads_means))))))
 
@@ -167,7 +168,7 @@ reads_with_row c = reads_last {f = λ (x : ℕ × NamedRow). c x.0 x.1} reads_se
 reads_with_query : {word text : List ℕ} {c : Question → CommandTree} → Reads (with_query word c) Nothing text (with_query_at word c text)
 reads_with_query = reads_last reads_word_query (λ v k f. f)
 
-reads_with_handle : {word text : List ℕ} {c : CommandTree} → Reads (with_handle word c) Nothing text (with_handle_at word c text)
+reads_with_handle : {word text : List ℕ} {c : Handle → CommandTree} → Reads (with_handle word c) Nothing text (with_handle_at word c text)
 reads_with_handle = reads_last reads_handle (λ v k f. f)
 
 -- ---- commands that share their first letter

@@ -5,6 +5,7 @@ use Rattle.grammar.specs.Numbers.{number_at}
 use Rattle.dl_base.specs.Query.{Question}
 use Rattle.dl_base.specs.NameReading.{name_at}
 use Rattle.dl_base.specs.declared.row.NamedRow.{NamedRow}
+use Rattle.gen_arena.specs.declared.handle.Handle.{Handle}
 use Rattle.dl_base.specs.declared.row.NamedRow.TheVariants as row
 use Rattle.cq_reader.specs.QueryReading.{query_and_blanks_at}
 use Rattle.script_reader.specs.declared.command_tree.CommandTree.{CommandTree}
@@ -65,7 +66,7 @@ word_and_query_at word text = do
   b ← some_blanks_at a.1
   query_and_blanks_at b.1
 
-unfoldable pub handle_and_blanks_at : List ℕ → List ℕ → Outcome (Unit {0})
+unfoldable pub handle_and_blanks_at : List ℕ → List ℕ → Outcome Handle
 handle_and_blanks_at word text = do
   a ← expect_at word text
   b ← some_blanks_at a.1
@@ -73,7 +74,7 @@ handle_and_blanks_at word text = do
   d ← expect_at (codes ".") slot.1
   generation ← number_at (2 ^ 64 - 1) d.1
   e ← blanks_at generation.1
-  Ok (tt, e.1)
+  Ok (record { slot = slot.0; generation = generation.0 }, e.1)
 
 abbrev pub alone_at : List ℕ → CommandTree → List ℕ → Outcome CommandTree
 alone_at word c text = do
@@ -95,10 +96,10 @@ with_query_at word c text = do
   q ← word_and_query_at word text
   Ok (c q.0, q.1)
 
-abbrev pub with_handle_at : List ℕ → CommandTree → List ℕ → Outcome CommandTree
+abbrev pub with_handle_at : List ℕ → (Handle → CommandTree) → List ℕ → Outcome CommandTree
 with_handle_at word c text = do
-  a ← handle_and_blanks_at word text
-  Ok (c, a.1)
+  handle ← handle_and_blanks_at word text
+  Ok (c handle.0, handle.1)
 
 -- ---- the commands, by their first letters
 

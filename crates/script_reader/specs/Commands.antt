@@ -5,6 +5,7 @@ use Rattle.grammar.specs.Blanks.{blanks, some_blanks}
 use Rattle.grammar.specs.Numbers.{number}
 use Rattle.dl_base.specs.Query.{Question, IsQuery}
 use Rattle.dl_base.specs.declared.row.NamedRow.{NamedRow}
+use Rattle.gen_arena.specs.declared.handle.Handle.{Handle}
 use Rattle.cq_reader.specs.QueryText.{query_and_blanks}
 use Rattle.cq_reader.specs.QueryLimits.{IsSmall, IsTooLarge, IsFirstUnbound}
 use Rattle.cq_reader.specs.declared.query.QueryError.{QueryError}
@@ -56,16 +57,16 @@ word_and_query word = do
   some_blanks
   query_and_blanks
 
--- a word and a handle, which is two numbers with a point between them
-abbrev pub handle_and_blanks : List ℕ → Grammar (Unit {0})
+-- a word and a handle, which is the number of a slot and a generation with a point between them
+abbrev pub handle_and_blanks : List ℕ → Grammar Handle
 handle_and_blanks word = do
   literal word
   some_blanks
-  number (2 ^ 32 - 1)
+  slot ← number (2 ^ 32 - 1)
   literal (codes ".")
-  number (2 ^ 64 - 1)
+  generation ← number (2 ^ 64 - 1)
   blanks
-  means tt
+  means (record { slot = slot; generation = generation })
 
 abbrev pub alone : List ℕ → CommandTree → Grammar CommandTree
 alone word c = do
@@ -87,10 +88,10 @@ with_query word c = do
   q ← word_and_query word
   means (c q)
 
-abbrev pub with_handle : List ℕ → CommandTree → Grammar CommandTree
+abbrev pub with_handle : List ℕ → (Handle → CommandTree) → Grammar CommandTree
 with_handle word c = do
-  handle_and_blanks word
-  means c
+  handle ← handle_and_blanks word
+  means (c handle)
 
 -- `#` and any bytes
 abbrev pub script_comment : Grammar CommandTree
@@ -128,7 +129,7 @@ script_line = do
 
 -- ---- what is asked
 
--- the command of a line; four commands aren't built
+-- the command of a line
 abbrev pub command_of : CommandTree → Command
 command_of tree.Blank = command.Blank
 command_of tree.Ontology = command.Ontology
@@ -138,11 +139,11 @@ command_of (tree.Del session row) = command.Del session row
 command_of (tree.Commit session) = command.Commit session
 command_of (tree.Abort session) = command.Abort session
 command_of (tree.Ask q) = command.Ask q
-command_of (tree.Prepare q) = command.Unbuilt
-command_of tree.Run = command.Unbuilt
-command_of tree.Drop = command.Unbuilt
+command_of (tree.Prepare q) = command.Prepare q
+command_of (tree.Run handle) = command.Run handle
+command_of (tree.Drop handle) = command.Drop handle
 command_of tree.Check = command.Check
-command_of tree.Tables = command.Unbuilt
+command_of tree.Tables = command.Tables
 command_of tree.Tidy = command.Tidy
 command_of tree.Reopen = command.Reopen
 
@@ -157,8 +158,8 @@ query_of (tree.Commit session) = None
 query_of (tree.Abort session) = None
 query_of (tree.Ask q) = Some q
 query_of (tree.Prepare q) = Some q
-query_of tree.Run = None
-query_of tree.Drop = None
+query_of (tree.Run handle) = None
+query_of (tree.Drop handle) = None
 query_of tree.Check = None
 query_of tree.Tables = None
 query_of tree.Tidy = None

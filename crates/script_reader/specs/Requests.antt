@@ -29,10 +29,13 @@ IsAlone (command.Del session row) = Unit {0}
 IsAlone (command.Commit session) = Unit {0}
 IsAlone (command.Abort session) = Unit {0}
 IsAlone (command.Ask q) = Unit {0}
+IsAlone (command.Prepare q) = Unit {0}
+IsAlone (command.Run handle) = Unit {0}
+IsAlone (command.Drop handle) = Unit {0}
 IsAlone command.Check = Unit {0}
+IsAlone command.Tables = Unit {0}
 IsAlone command.Tidy = Unit {0}
 IsAlone command.Reopen = Unit {0}
-IsAlone command.Unbuilt = Unit {0}
 
 -- the line by itself is this request
 pub data Asks : Line → Request → Type 0 where

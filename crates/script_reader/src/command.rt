@@ -7,6 +7,7 @@ ghost use Rattle.script_reader.specs.Commands.{AsksCommand, IsRefusedLine, IsUnf
 use crate::command_tree::{CommandTree, read_script_line};
 use cq_reader::{QueryError, fitting};
 use dl_base::{NamedRow, Query};
+use gen_arena::Handle;
 use grammar::{ReadError, whole};
 use std::alloc::Global;
 
@@ -29,14 +30,20 @@ pub enum Command {
     Abort(u8),
     /// To answer the query.
     Ask(Query),
+    /// To keep the query under a handle.
+    Prepare(Query),
+    /// To answer the query that is kept under the handle.
+    Run(Handle),
+    /// To forget the query that is kept under the handle.
+    Drop(Handle),
     /// To tell the first clash.
     Check,
+    /// To tell the completed tables.
+    Tables,
     /// To tidy up.
     Tidy,
     /// To give the base up and load it again.
     Reopen,
-    /// To do what isn't built yet.
-    Unbuilt,
 }
 
 /// What the line asks, whatever blanks stand before and behind it.
@@ -68,12 +75,11 @@ fn command_of(alloc: Global, said: CommandTree) -> Result<Command, QueryError>
         CommandTree::Commit(session) => Ok(Command::Commit(session)),
         CommandTree::Abort(session) => Ok(Command::Abort(session)),
         CommandTree::Ask(query) => Ok(Command::Ask(fitting(alloc, query)?)),
-        CommandTree::Prepare(query) => {
-            fitting(alloc, query)?;
-            Ok(Command::Unbuilt)
-        }
-        CommandTree::Run | CommandTree::Drop | CommandTree::Tables => Ok(Command::Unbuilt),
+        CommandTree::Prepare(query) => Ok(Command::Prepare(fitting(alloc, query)?)),
+        CommandTree::Run(handle) => Ok(Command::Run(handle)),
+        CommandTree::Drop(handle) => Ok(Command::Drop(handle)),
         CommandTree::Check => Ok(Command::Check),
+        CommandTree::Tables => Ok(Command::Tables),
         CommandTree::Tidy => Ok(Command::Tidy),
         CommandTree::Reopen => Ok(Command::Reopen),
     }

@@ -4,7 +4,7 @@ use cq_reader::QueryError;
 use std::alloc::{AllocError, Global};
 use std::test::Fail;
 
-// In each line of a table stands, before the first colon, what the text behind it asks and of which session; or why it
+// In each line of a table stands, before the first colon, what the text behind it asks and of which session, or of which generation; or why it
 // is refused, and the place of its fault.
 
 fn asking() -> &'static str {
@@ -22,10 +22,11 @@ fn asking() -> &'static str {
      abort 9:\tabort 9 \n\
      ask 0:ask q(?x) :- A(?x)\n\
      ask 0: ask q( ) :- A(x) , r(x,?y)\t \n\
-     unbuilt 0:prepare q() :- A(x)\n\
-     unbuilt 0:run 4294967295.18446744073709551615\n\
-     unbuilt 0:drop 0.0 \n\
-     unbuilt 0: tables\n\
+     prepare 0:prepare q() :- A(x)\n\
+     run 18446744073709551615:run 4294967295.18446744073709551615\n\
+     drop 0:drop 0.0 \n\
+     drop 2:drop\t 17.2\n\
+     tables 0: tables\n\
      check 0: check\n\
      tidy 0:tidy \n\
      reopen 0:\treopen"
@@ -49,7 +50,9 @@ fn refused() -> &'static str {
      syntax 10:add 0 A a# \n\
      syntax 5:begi\0\n\
      syntax 14:run 4294967296.1\n\
-     syntax 26:run 1.18446744073709551616\n\
+     syntax 26:run 0.18446744073709551616\n\
+     syntax 6:drop 01.1\n\
+     syntax 7:drop 1\n\
      syntax 10:prepare q\n\
      unsafe 0:prepare q(?y) :- A(x)\n\
      unsafe 0:ask q(?y) :- A(x)"
@@ -68,10 +71,13 @@ fn word_of(command: &Command) -> (&'static str, u64) {
         Command::Commit(session) => ("commit", *session as u64),
         Command::Abort(session) => ("abort", *session as u64),
         Command::Ask(_) => ("ask", 0),
+        Command::Prepare(_) => ("prepare", 0),
+        Command::Run(handle) => ("run", handle.generation),
+        Command::Drop(handle) => ("drop", handle.generation),
         Command::Check => ("check", 0),
+        Command::Tables => ("tables", 0),
         Command::Tidy => ("tidy", 0),
         Command::Reopen => ("reopen", 0),
-        Command::Unbuilt => ("unbuilt", 0),
     }
 }
 
@@ -109,8 +115,8 @@ fn holding(alloc: Global, table: &str) -> Result<usize, AllocError> {
 
 #[test]
 fn each_line_asks_what_its_format_says(rt: HostRuntime) -> Result<(), Fail> {
-    assert_eq!(rt; holding(rt.alloc(), asking())?, 21);
-    assert_eq!(rt; holding(rt.alloc(), refused())?, 21);
+    assert_eq!(rt; holding(rt.alloc(), asking())?, 22);
+    assert_eq!(rt; holding(rt.alloc(), refused())?, 23);
     assert_eq!(rt; asked(rt.alloc(), LARGE), ("too large", 0));
     Ok(())
 }

@@ -4,12 +4,14 @@
 //! go on with it.
 
 ghost use Rattle.std.specs.Prelude.{◌≡◌};
+ghost use Rattle.grammar.specs.Numbers.{number_at};
 ghost use Rattle.grammar.specs.Reading.{Gives};
 ghost use Rattle.dl_base.specs.declared.row.NamedRow.TheVariants.{Concept};
 ghost use Rattle.script_reader.specs.CommandReading.{third_and_blanks_at, row_and_blanks_at, word_and_blanks_at, session_at, session_and_blanks_at, session_and_row_at, word_and_query_at, handle_and_blanks_at, a_command_at, c_command_at, d_command_at, r_command_at, t_command_at, command_at, comment_at, script_line_at};
 
 use cq_reader::{Draft, read_draft};
 use dl_base::{Name, NamedRow, read_name};
+use gen_arena::Handle;
 use grammar::{ReadError, expect, next_is_byte, read_number, skip_blanks, some_blanks};
 use std::alloc::Global;
 
@@ -35,9 +37,9 @@ pub enum CommandTree {
     /// `prepare` and a query.
     Prepare(Draft),
     /// `run` and a handle.
-    Run,
+    Run(Handle),
     /// `drop` and a handle.
-    Drop,
+    Drop(Handle),
     /// `check`
     Check,
     /// `tables`
@@ -155,18 +157,27 @@ fn read_word_and_query<'a>(
     read_draft(alloc, rest)
 }
 
-/// The word, blanks, a handle and the blanks behind it, of which the text behind is given.
+/// The number of a slot.
+fn read_slot(text: &[u8]) -> Result<(u32, &[u8]), ReadError>
+    ensures { Gives (λ x. (x.0, x.1.now)) result (number_at 4294967295 text.now) }
+{
+    let (slot, rest) = read_number(u32::MAX as u64, text)?;
+    Ok((slot as u32, rest))
+}
+
+/// The word, blanks, a handle and the blanks behind it.
 #[tactic(auto, unfolding(crate::specs::CommandReading::handle_and_blanks_at))]
-fn read_handle_and_blanks<'a>(word: &[u8], text: &'a [u8]) -> Result<&'a [u8], ReadError>
-    ensures { Gives (λ rest. (tt, rest.now)) result (handle_and_blanks_at word.now text.now) }
+fn read_handle_and_blanks<'a>(word: &[u8], text: &'a [u8]) -> Result<(Handle, &'a [u8]), ReadError>
+    ensures { Gives (λ x. (x.0, x.1.now)) result (handle_and_blanks_at word.now text.now) }
 {
     let rest = expect(word, text)?;
     let (_, rest) = some_blanks(rest)?;
-    let (_, rest) = read_number(u32::MAX as u64, rest)?;
+    let (slot, rest) = read_slot(rest)?;
     let rest = expect(b".", rest)?;
-    let (_, rest) = read_number(u64::MAX, rest)?;
+    let (generation, rest) = read_number(u64::MAX, rest)?;
     let (_, rest) = skip_blanks(rest);
-    Ok(rest)
+    let handle = Handle { slot, generation };
+    Ok((handle, rest))
 }
 
 /// `add`, `abort` and `ask` share their first letter.
@@ -212,8 +223,8 @@ fn read_d_command(alloc: Global, text: &[u8]) -> Result<(CommandTree, &[u8]), Re
         let (session, row, rest) = read_session_and_row(alloc, b"el", rest)?;
         Ok((CommandTree::Del(session, row), rest))
     } else {
-        let rest = read_handle_and_blanks(b"rop", rest)?;
-        Ok((CommandTree::Drop, rest))
+        let (handle, rest) = read_handle_and_blanks(b"rop", rest)?;
+        Ok((CommandTree::Drop(handle), rest))
     }
 }
 
@@ -224,8 +235,8 @@ fn read_r_command(text: &[u8]) -> Result<(CommandTree, &[u8]), ReadError>
 {
     let rest = expect(b"r", text)?;
     if next_is_byte(b'u', rest) {
-        let rest = read_handle_and_blanks(b"un", rest)?;
-        Ok((CommandTree::Run, rest))
+        let (handle, rest) = read_handle_and_blanks(b"un", rest)?;
+        Ok((CommandTree::Run(handle), rest))
     } else {
         let rest = read_word_and_blanks(b"eopen", rest)?;
         Ok((CommandTree::Reopen, rest))

@@ -1,0 +1,7 @@
+use Rattle.std.proofs.Common.{◌≡◌, ◌++◌, take}
+use Rattle.std.specs.List.{flat_map}
+use Rattle.reply_text.specs.ReplyText.{ended_line}
+use Rattle.reply_text.proofs.text.append_lines.Given as goal
+
+abbrev pub invariant-loop-line : goal.invariant-loop-line
+invariant-loop-line l = l.out.items ≡ l.fn.out.items ++ flat_map ended_line (take l.line-index l.lines)
