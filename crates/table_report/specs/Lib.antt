@@ -1,0 +1,3 @@
+pub mod TableLines
+pub mod Gathered
+pub mod Laws
