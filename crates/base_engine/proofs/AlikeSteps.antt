@@ -4,9 +4,13 @@ use Rattle.std.specs.Prelude.{sum_by}
 use Rattle.std.proofs.lemmas.List.{map-append}
 use Rattle.std.proofs.lemmas.List.Sums.{sum_by-append}
 use Rattle.dl_base.specs.Ontology.{Terminology}
+use Rattle.dl_base.specs.Query.{Question}
 use Rattle.dl_base.specs.declared.concept.Role.{Role}
 use Rattle.dl_base.specs.declared.row.NamedRow.{NamedRow}
 use Rattle.dl_base.specs.declared.row.NamedChange.{NamedChange}
+use Rattle.gen_arena.specs.Store.{HandleStore, IsGone, Names, next_handle, room_of, with_value, without}
+use Rattle.gen_arena.specs.declared.handle.Gone.TheVariants as gone
+use Rattle.table_report.specs.TableLines.{AreTableLines}
 use Rattle.txn_codec.specs.Spelling.{changes_bytes, ontology_bytes}
 use Rattle.base_store.specs.Area.{area_limit}
 use Rattle.base_store.specs.History.{History, Empty, Over, IsAfterChanges, IsAfterTransactions, payloads, transaction_count, used, with_ontology, with_transaction}
@@ -20,7 +24,7 @@ use Rattle.script_reader.specs.declared.request.Request.TheVariants as request
 use Rattle.base_engine.specs.Alike.{AlikeStepAlike, AreAlike, LookAlike}
 use Rattle.base_engine.specs.State.{BecomesLiveIn, IsBase, IsInitial, IsLiveIn, Raises, MachineState, put_session}
 use Rattle.base_engine.specs.Refusals.{IsAccepted, IsRefusedFor, RefusalHolds}
-use Rattle.base_engine.specs.Steps.{Commits, Counts, Does, StepsTo, appended}
+use Rattle.base_engine.specs.Steps.{Commits, Counts, Does, IsReplyIn, StepsTo, appended}
 
 -- ---- histories
 
@@ -100,26 +104,28 @@ counts g h k l added removed a b c = record {
 -- ---- states
 
 alike_back : (s u : MachineState) → AreAlike s u → AreAlike u s
-alike_back s u a = record { histories = back s.history u.history a.histories; sessions = sym a.sessions; generations = sym a.generations }
+alike_back s u a = record { histories = back s.history u.history a.histories; sessions = sym a.sessions; handles = sym a.handles; generations = sym a.generations }
 
 session_at : (s u : MachineState) (k : ℕ) (found : Option (List NamedChange)) → AreAlike s u → s.session k ≡ found → u.session k ≡ found
 session_at s u k found a e = sym (ap (λ (f : ℕ → Option (List NamedChange)). f k) a.sessions) ∙ e
 
 holds_alike : (s u : MachineState) (q : Request) (e : Refusal) → AreAlike s u → RefusalHolds s q e → RefusalHolds u q e
 holds_alike s u q e a RefusalHolds.bad = RefusalHolds.bad
-holds_alike s u q e a RefusalHolds.unbuilt = RefusalHolds.unbuilt
 holds_alike s u q e a (RefusalHolds.no_ontology needs none) = RefusalHolds.no_ontology needs (sym a.histories.ontology_is ∙ none)
 holds_alike s u q e a (RefusalHolds.ontology_there o has) = RefusalHolds.ontology_there o (sym a.histories.ontology_is ∙ has)
 holds_alike s u q e a RefusalHolds.block = RefusalHolds.block
 holds_alike s u q e a (RefusalHolds.not_open k needs closed) = RefusalHolds.not_open k needs (session_at s u k None a closed)
 holds_alike s u q e a (RefusalHolds.already_open {k = k} changes are) = RefusalHolds.already_open changes (session_at s u k (Some changes) a are)
 holds_alike s u q e a (RefusalHolds.unknown_name o k r has appends lacks) = RefusalHolds.unknown_name o k r (sym a.histories.ontology_is ∙ has) appends lacks
-holds_alike s u q e a (RefusalHolds.unknown_in_query o has lacks) = RefusalHolds.unknown_in_query o (sym a.histories.ontology_is ∙ has) lacks
+holds_alike s u q e a (RefusalHolds.unknown_in_query o p has poses lacks) = RefusalHolds.unknown_in_query o p (sym a.histories.ontology_is ∙ has) poses lacks
 holds_alike s u q e a (RefusalHolds.pending k r changes appends are many) = RefusalHolds.pending k r changes appends (session_at s u k (Some changes) a are) many
 holds_alike s u q e a (RefusalHolds.crowded {k = k} changes are many) =
     RefusalHolds.crowded changes (session_at s u k (Some changes) a are) (crowded _ _ (one_more s.history u.history changes a.histories) many)
 holds_alike s u q e a (RefusalHolds.transaction_full {k = k} changes are full) =
     RefusalHolds.transaction_full changes (session_at s u k (Some changes) a are) (let same = (one_more s.history u.history changes a.histories).used_is in subst (λ (n : ℕ). area_limit < n) same full)
+holds_alike s u q e a (RefusalHolds.never_given h uses is) = RefusalHolds.never_given h uses (subst (λ (x : HandleStore Question). IsGone x h gone.Never) a.handles is)
+holds_alike s u q e a (RefusalHolds.dropped {last = last} h uses is) = RefusalHolds.dropped h uses (subst (λ (x : HandleStore Question). IsGone x h (gone.Dropped last)) a.handles is)
+holds_alike s u q e a (RefusalHolds.no_slot full) = RefusalHolds.no_slot (sym (ap (λ (x : HandleStore Question). room_of x) a.handles) ∙ full)
 holds_alike s u q e a (RefusalHolds.ontology_full {o = o} full) =
     RefusalHolds.ontology_full (let same = (loaded s.history u.history o a.histories).used_is in subst (λ (n : ℕ). area_limit < n) same full)
 
@@ -138,6 +144,7 @@ set_alike : (s u : MachineState) (k : ℕ) (found : Option (List NamedChange)) �
 set_alike s u k found a = record {
   histories = a.histories;
   sessions = λ i n. if n == k then found else a.sessions i n;
+  handles = a.handles;
   generations = a.generations;
 }
 
@@ -147,7 +154,7 @@ commit_alike s u t k number added removed a c =
     let v : MachineState = record (put_session k None u) { history = with_transaction c.changes u.history; generation = c.generation } in
     let there : t.history ≡ with_transaction c.changes s.history = ap (λ (z : MachineState). z.history) c.state in
     let alike : AreAlike t v = subst (λ (z : MachineState). AreAlike z v) (sym c.state)
-    (record { histories = more; sessions = (set_alike s u k None a).sessions; generations = refl }) in (
+    (record { histories = more; sessions = (set_alike s u k None a).sessions; handles = a.handles; generations = refl }) in (
       v,
       Does.commit (record {
         changes = c.changes;
@@ -169,16 +176,24 @@ reopen_alike s u t a i =
     let initial : IsInitial u.history v = record {
       history = refl;
       closed = i.closed;
+      none_given = i.none_given;
       live = λ r l. i.live r (live u.history s.history r (back s.history u.history a.histories) l);
       others = λ r not. i.others r (λ l. not (live s.history u.history r a.histories l));
     } in
     let does : Does u (request.Plain command.Reopen) (reply.Reopened (transaction_count s.history)) v =
     subst (λ (n : ℕ). Does u (request.Plain command.Reopen) (reply.Reopened n) v) (sym a.histories.count_is) (Does.reopen initial) in
-    (v, does, record { histories = subst (λ (h : History). LookAlike h u.history) (sym i.history) a.histories; sessions = refl; generations = refl })
+    (v, does, record { histories = subst (λ (h : History). LookAlike h u.history) (sym i.history) a.histories; sessions = refl; handles = refl; generations = refl })
+
+reply_alike : (s u : MachineState) (q : Question) (r : Reply) → AreAlike s u → IsReplyIn s q r → IsReplyIn u q r
+reply_alike s u q r a (IsReplyIn.answered o rows b x) = IsReplyIn.answered o rows (base s.history u.history o rows a.histories b) x
+reply_alike s u q r a (IsReplyIn.clashes o rows place b x named) = IsReplyIn.clashes o rows place (base s.history u.history o rows a.histories b) x named
+
+handles_alike : (s u : MachineState) (x y : HandleStore Question) → AreAlike s u → x ≡ y → AreAlike (record s { handles = x }) (record u { handles = y })
+handles_alike s u x y a same = record { histories = a.histories; sessions = a.sessions; handles = same; generations = a.generations }
 
 does_alike : (s u t : MachineState) (q : Request) (r : Reply) → AreAlike s u → Does s q r t → Follows u t q r
 does_alike s u t q r a (Does.block {o = o}) =
-    (record u { history = with_ontology o u.history; generation = λ r. 0 }, Does.block, record { histories = loaded s.history u.history o a.histories; sessions = a.sessions; generations = refl })
+    (record u { history = with_ontology o u.history; generation = λ r. 0 }, Does.block, record { histories = loaded s.history u.history o a.histories; sessions = a.sessions; handles = a.handles; generations = refl })
 does_alike s u t q r a (Does.begin {k = k}) = (put_session k (Some []) u, Does.begin, set_alike s u k (Some []) a)
 does_alike s u t q r a (Does.add {k = k} {r = x} changes are) =
     (put_session k (Some (appended changes (record { add = true; row = x }))) u, Does.add changes (session_at s u k (Some changes) a are), set_alike s u k (Some (appended changes (record { add = true; row = x }))) a)
@@ -186,10 +201,19 @@ does_alike s u t q r a (Does.del {k = k} {r = x} changes are) =
     (put_session k (Some (appended changes (record { add = false; row = x }))) u, Does.del changes (session_at s u k (Some changes) a are), set_alike s u k (Some (appended changes (record { add = false; row = x }))) a)
 does_alike s u t q r a (Does.commit {k = k} {number = number} {added = added} {removed = removed} c) = commit_alike s u t k number added removed a c
 does_alike s u t q r a (Does.abort {k = k}) = (put_session k None u, Does.abort, set_alike s u k None a)
-does_alike s u t q r a (Does.answered o rows b x) = (u, Does.answered o rows (base s.history u.history o rows a.histories b) x, a)
-does_alike s u t q r a (Does.ask_clashes o rows place b x named) = (u, Does.ask_clashes o rows place (base s.history u.history o rows a.histories b) x named, a)
+does_alike s u t q r a (Does.ask {q = p} x) = (u, Does.ask (reply_alike s u p r a x), a)
+does_alike s u t q r a (Does.prepare {q = p}) =
+    let v : MachineState = record u { handles = with_value p u.handles } in
+    let given : Does u (request.Plain (command.Prepare p)) (reply.Prepared (next_handle s.handles)) v =
+    subst (λ (x : HandleStore Question). Does u (request.Plain (command.Prepare p)) (reply.Prepared (next_handle x)) v) (sym a.handles) Does.prepare in
+    (v, given, handles_alike s u (with_value p s.handles) (with_value p u.handles) a (ap (with_value p) a.handles))
+does_alike s u t q r a (Does.run {h = h} p named x) = (u, Does.run p (subst (λ (y : HandleStore Question). Names y h p) a.handles named) (reply_alike s u p r a x), a)
+does_alike s u t q r a (Does.drop {h = h}) =
+    (record u { handles = without h u.handles }, Does.drop, handles_alike s u (without h s.handles) (without h u.handles) a (ap (without h) a.handles))
 does_alike s u t q r a (Does.consistent o rows b x) = (u, Does.consistent o rows (base s.history u.history o rows a.histories b) x, a)
 does_alike s u t q r a (Does.inconsistent o rows place b x named) = (u, Does.inconsistent o rows place (base s.history u.history o rows a.histories b) x named, a)
+does_alike s u t q r a (Does.tables {lines = lines} o rows b x) =
+    (u, Does.tables o rows (base s.history u.history o rows a.histories b) (subst (λ (g : Role → ℕ). AreTableLines o rows g lines) a.generations x), a)
 does_alike s u t q r a Does.tidy = (u, Does.tidy, a)
 does_alike s u t q r a (Does.reopen i) = reopen_alike s u t a i
 

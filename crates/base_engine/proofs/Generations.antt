@@ -13,7 +13,8 @@ use Rattle.dl_base.proofs.OntologyLemmas.{derived_placed}
 use Rattle.dl_base.proofs.SetLemmas.{role_place-same}
 use Rattle.query_shape.proofs.MatchList.{Decided}
 use Rattle.base_store.specs.History.{History}
-use Rattle.base_engine.specs.State.{BecomesLiveIn, IsLiveIn, IsWithinLimits}
+use Rattle.gen_arena.specs.Store.{empty_store}
+use Rattle.base_engine.specs.State.{BecomesLiveIn, IsLiveIn, IsWithinLimits, handle_limit}
 use Rattle.base_engine.specs.StepLaws.{BeginningNeverLacks, GenerationsNeverLack}
 use Rattle.base_engine.proofs.Outcomes.{start_placed}
 use Rattle.base_engine.proofs.RowsThere.{above}
@@ -117,4 +118,4 @@ generations_never_lack earlier later before within none =
 pub beginning_never_lacks : BeginningNeverLacks
 beginning_never_lacks h within none =
     choice_never_lacks (IsLiveIn h) (λ r. 1) (λ r. 0) 512 (live_below h within)
-    (λ found. none (record { history = h; session = λ n. None; generation = found.0 }, record { history = refl; closed = λ n. refl; live = found.1; others = found.2 }))
+    (λ found. none (record { history = h; session = λ n. None; handles = empty_store handle_limit; generation = found.0 }, record { history = refl; closed = λ n. refl; none_given = refl; live = found.1; others = found.2 }))

@@ -1,3 +1,4 @@
+pub mod HandleLemmas
 pub mod RowsOnce
 pub mod RefusedOnce
 pub mod StepsOnce
@@ -5,6 +6,7 @@ pub mod RefusalTable
 pub mod RowsThere
 pub mod Verdicts
 pub mod SmallSteps
+pub mod SmallHandles
 pub mod SmallGenerations
 pub mod Outcomes
 pub mod AlikeSteps

@@ -17,6 +17,8 @@ use Rattle.dl_base.specs.declared.row.NamedChange.{NamedChange}
 use Rattle.dl_base.proofs.OntologyLemmas.{derived_placed}
 use Rattle.dl_base.proofs.PlaceLemmas.{something_at}
 use Rattle.clash_report.specs.Report.{IsNamedClash, IsNamedRole}
+use Rattle.gen_arena.specs.Store.{next_handle}
+use Rattle.gen_arena.specs.declared.handle.Handle.{Handle}
 use Rattle.base_store.specs.History.{transaction_count, with_transaction, ontology_of}
 use Rattle.reply_text.specs.declared.reply.Reply.{Reply}
 use Rattle.reply_text.specs.declared.reply.Reply.TheVariants as reply
@@ -26,10 +28,11 @@ use Rattle.script_reader.specs.declared.command.Command.TheVariants as command
 use Rattle.script_reader.specs.declared.request.Request.{Request}
 use Rattle.script_reader.specs.declared.request.Request.TheVariants as request
 use Rattle.base_engine.specs.State.{IsBase, IsWithinLimits, MachineState, put_session}
-use Rattle.base_engine.specs.Refusals.{IsAccepted, NeedsOpen, RefusalHolds}
+use Rattle.base_engine.specs.Refusals.{IsAccepted, NeedsOpen, RefusalHolds, UsesHandle}
 use Rattle.base_engine.specs.Requests.{IsGivenCommand}
 use Rattle.base_engine.specs.StepLaws.{AcceptedSteps, HasOutcome}
-use Rattle.base_engine.specs.Steps.{Does, StepsTo}
+use Rattle.base_engine.specs.Steps.{Does, IsReplyIn, StepsTo}
+use Rattle.base_engine.proofs.HandleLemmas.{accepted_is_live}
 use Rattle.base_engine.proofs.RowsThere.{counts_are, rows_are, rows_of}
 
 -- ---- the names of a clash
@@ -99,12 +102,10 @@ module _ (s : MachineState) (within : IsWithinLimits s.history) where
         })),
       )
 
-  asked : (q : Question) (o : Terminology) (is : IsTerminology o) (base : IsBase s.history o (rows_of s.history)) (r : Replied) → IsReply o (rows_of s.history) q r
-      → IsAccepted s (request.Plain (command.Ask q)) → HasReply s (request.Plain (command.Ask q))
-  asked q o is base (Answers keys) replies accepted = (reply.Answers keys, s, StepsTo.done accepted (Does.answered o (rows_of s.history) base replies))
-  asked q o is base (Inconsistent place) replies accepted =
-      let named = clash_named o (rows_of s.history) is place replies.0 in
-      (reply.Inconsistent named.0, s, StepsTo.done accepted (Does.ask_clashes o (rows_of s.history) place base replies named.1))
+  reply_in : (q : Question) (o : Terminology) (is : IsTerminology o) (base : IsBase s.history o (rows_of s.history)) (r : Replied) → IsReply o (rows_of s.history) q r → (told : Reply) × IsReplyIn s q told
+  reply_in q o is base (Answers keys) replies = (reply.Answers keys, IsReplyIn.answered o (rows_of s.history) base replies)
+  reply_in q o is base (Inconsistent place) replies =
+      let named = clash_named o (rows_of s.history) is place replies.0 in (reply.Inconsistent named.0, IsReplyIn.clashes o (rows_of s.history) place base replies named.1)
 
   ask_done : (q : Question) (found : Option Terminology) → ontology_of s.history ≡ found → IsAccepted s (request.Plain (command.Ask q)) → HasOutcome s (request.Plain (command.Ask q))
       → HasReply s (request.Plain (command.Ask q))
@@ -112,7 +113,22 @@ module _ (s : MachineState) (within : IsWithinLimits s.history) where
   ask_done q (Some o) e accepted outcome =
       let base : IsBase s.history o (rows_of s.history) = record { ontology_is = e; rows_are = rows_are s.history } in
       let found = outcome o (rows_of s.history) base in
-      asked q o (within o e) base found.0 found.1 accepted
+      let told = reply_in q o (within o e) base found.0 found.1 in (told.0, s, StepsTo.done accepted (Does.ask told.1))
+
+  run_done : (h : Handle) (found : Option Terminology) → ontology_of s.history ≡ found → IsAccepted s (request.Plain (command.Run h)) → HasOutcome s (request.Plain (command.Run h))
+      → HasReply s (request.Plain (command.Run h))
+  run_done h None e accepted outcome = absurd (accepted refusal.NoOntology (RefusalHolds.no_ontology tt e))
+  run_done h (Some o) e accepted outcome =
+      let base : IsBase s.history o (rows_of s.history) = record { ontology_is = e; rows_are = rows_are s.history } in
+      let live = accepted_is_live s (command.Run h) h UsesHandle.run accepted in
+      let found = outcome live.0 o (rows_of s.history) live.1 base in
+      let told = reply_in live.0 o (within o e) base found.0 found.1 in (told.0, s, StepsTo.done accepted (Does.run live.0 live.1 told.1))
+
+  tables_done : (found : Option Terminology) → ontology_of s.history ≡ found → IsAccepted s (request.Plain command.Tables) → HasOutcome s (request.Plain command.Tables) → HasReply s (request.Plain command.Tables)
+  tables_done None e accepted outcome = absurd (accepted refusal.NoOntology (RefusalHolds.no_ontology tt e))
+  tables_done (Some o) e accepted outcome =
+      let base : IsBase s.history o (rows_of s.history) = record { ontology_is = e; rows_are = rows_are s.history } in
+      let found = outcome o (rows_of s.history) base in (reply.Table found.0, s, StepsTo.done accepted (Does.tables o (rows_of s.history) base found.1))
 
   checked : (o : Terminology) (is : IsTerminology o) (base : IsBase s.history o (rows_of s.history)) (c : Option Place) → IsFirstClash o (rows_of s.history) c
       → IsAccepted s (request.Plain command.Check) → HasReply s (request.Plain command.Check)
@@ -137,10 +153,13 @@ module _ (s : MachineState) (within : IsWithinLimits s.history) where
   command_done (command.Commit k) given accepted outcome = commit_done k (s.session k) refl accepted outcome
   command_done (command.Abort k) given accepted outcome = (reply.Done, _, StepsTo.done accepted Does.abort)
   command_done (command.Ask q) given accepted outcome = ask_done q (ontology_of s.history) refl accepted outcome
+  command_done (command.Prepare q) given accepted outcome = (reply.Prepared (next_handle s.handles), _, StepsTo.done accepted Does.prepare)
+  command_done (command.Run h) given accepted outcome = run_done h (ontology_of s.history) refl accepted outcome
+  command_done (command.Drop h) given accepted outcome = (reply.Done, _, StepsTo.done accepted Does.drop)
   command_done command.Check given accepted outcome = check_done (ontology_of s.history) refl accepted outcome
+  command_done command.Tables given accepted outcome = tables_done (ontology_of s.history) refl accepted outcome
   command_done command.Tidy given accepted outcome = (reply.Done, s, StepsTo.done accepted Does.tidy)
   command_done command.Reopen given accepted outcome = (reply.Reopened (transaction_count s.history), outcome.0, StepsTo.done accepted (Does.reopen outcome.1))
-  command_done command.Unbuilt given accepted outcome = absurd (accepted refusal.Unbuilt RefusalHolds.unbuilt)
 
 pub accepted_steps : AcceptedSteps
 accepted_steps s (request.Plain c) given within accepted outcome = command_done s within c given accepted outcome

@@ -8,6 +8,10 @@ use Rattle.dl_base.specs.declared.query.Atom.TheVariants as atom
 use Rattle.dl_base.specs.declared.row.NamedRow.{NamedRow}
 use Rattle.dl_base.specs.declared.row.NamedChange.{NamedChange}
 use Rattle.axiom_reader.specs.declared.block.BlockError.{BlockError}
+use Rattle.gen_arena.specs.Store.{IsGone, IsHandleStore, IsLive, room_of}
+use Rattle.gen_arena.specs.declared.handle.Handle.{Handle}
+use Rattle.gen_arena.specs.declared.handle.Gone.TheVariants as gone
+use Rattle.gen_arena.proofs.LawLemmas.{gone_is_not_live}
 use Rattle.query_shape.specs.ShapeFault.{IsAtomFault, IsFirstFault, IsKnown}
 use Rattle.query_shape.specs.declared.numbering.ShapeError.{ShapeError}
 use Rattle.query_shape.specs.declared.numbering.ShapeError.TheVariants as unknown
@@ -20,13 +24,13 @@ use Rattle.script_reader.specs.declared.command.Command.{Command}
 use Rattle.script_reader.specs.declared.command.Command.TheVariants as command
 use Rattle.script_reader.specs.declared.request.Request.TheVariants as request
 use Rattle.base_engine.specs.State.{MachineState}
-use Rattle.base_engine.specs.Refusals.{AppendsChange, IsAccepted, IsRefusedFor, LacksNameOf, LacksNameIn, NeedsOntology, NeedsOpen, RefusalHolds, rank}
-use Rattle.base_engine.specs.RefusalLaws.{AbortRefusals, AskRefusals, BeginRefusals, BlockRefusals, ChangeRefusals, CommitRefusals, LineRefusals, OntologyRefusals, OthersAccepted}
+use Rattle.base_engine.specs.Refusals.{AppendsChange, IsAccepted, IsRefusedFor, LacksNameOf, LacksNameIn, NeedsOntology, NeedsOpen, PosesQuery, RefusalHolds, UsesHandle, rank}
+use Rattle.base_engine.specs.RefusalLaws.{AbortRefusals, AskRefusals, BeginRefusals, BlockRefusals, ChangeRefusals, CommitRefusals, HandleRefusals, LineRefusals, OntologyRefusals, OthersAccepted, PrepareRefusals}
 use Rattle.base_engine.proofs.RowsOnce.{ontology_once}
 use Rattle.base_engine.proofs.RefusedOnce.{Tells, not_known, rank_row, rank_query}
 
 -- something and nothing
-some_or_none : {X : Type 0} (x : X) (found : Option X) → found ≡ Some x → found ≡ None → ⊥
+pub some_or_none : {X : Type 0} (x : X) (found : Option X) → found ≡ Some x → found ≡ None → ⊥
 some_or_none x found a b = let e : Some x ≡ None = sym a ∙ b in cc
 
 -- ---- lines
@@ -34,28 +38,23 @@ some_or_none x found a b = let e : Some x ≡ None = sym a ∙ b in cc
 bad_first : (s : MachineState) (e f : Refusal) → RefusalHolds s (request.Bad e) f → rank e ≤ rank f
 bad_first s e f RefusalHolds.bad = omega arith
 
-unbuilt_first : (s : MachineState) (f : Refusal) → RefusalHolds s (request.Plain command.Unbuilt) f → 4 ≤ rank f
-unbuilt_first s f RefusalHolds.unbuilt = omega arith
-unbuilt_first s f (RefusalHolds.no_ontology needs none) = absurd needs
-unbuilt_first s f (RefusalHolds.not_open k needs closed) = elim needs [ ]
-unbuilt_first s f (RefusalHolds.unknown_name o k r has appends lacks) = elim appends [ ]
-unbuilt_first s f (RefusalHolds.pending k r changes appends are many) = elim appends [ ]
-
 pub line_refusals : LineRefusals
-line_refusals s = (λ e. record { holds = RefusalHolds.bad; first = bad_first s e }, record { holds = RefusalHolds.unbuilt; first = unbuilt_first s })
+line_refusals s e = record { holds = RefusalHolds.bad; first = bad_first s e }
 
 -- ---- no ontology
 
 five : (s : MachineState) (c : Command) (f : Refusal) → NeedsOntology c → RefusalHolds s (request.Plain c) f → 5 ≤ rank f
-five s c f needs RefusalHolds.unbuilt = absurd needs
 five s c f needs (RefusalHolds.no_ontology again none) = omega arith
 five s c f needs (RefusalHolds.not_open k open' closed) = omega arith
 five s c f needs (RefusalHolds.already_open changes are) = omega arith
 five s c f needs (RefusalHolds.unknown_name o k r has appends lacks) = omega (arith, rank_row o r f lacks)
-five s c f needs (RefusalHolds.unknown_in_query {q = q} o has lacks) = omega (arith, rank_query o q f lacks)
+five s c f needs (RefusalHolds.unknown_in_query o q has poses lacks) = omega (arith, rank_query o q f lacks)
 five s c f needs (RefusalHolds.pending k r changes appends are many) = omega arith
 five s c f needs (RefusalHolds.crowded changes are many) = omega arith
 five s c f needs (RefusalHolds.transaction_full changes are full) = omega arith
+five s c f needs (RefusalHolds.never_given h uses never) = omega arith
+five s c f needs (RefusalHolds.dropped h uses dropped) = omega arith
+five s c f needs (RefusalHolds.no_slot full) = omega arith
 
 pub no_ontology : (s : MachineState) (c : Command) → NeedsOntology c → ontology_of s.history ≡ None → IsRefusedFor s (request.Plain c) refusal.NoOntology
 no_ontology s c needs none = record { holds = RefusalHolds.no_ontology needs none; first = λ f h. five s c f needs h }
@@ -68,7 +67,11 @@ ontology_refusals s none = (
   λ k. no_ontology s (command.Commit k) tt none,
   λ k. no_ontology s (command.Abort k) tt none,
   λ q. no_ontology s (command.Ask q) tt none,
+  λ q. no_ontology s (command.Prepare q) tt none,
+  λ h. no_ontology s (command.Run h) tt none,
+  λ h. no_ontology s (command.Drop h) tt none,
   no_ontology s command.Check tt none,
+  no_ontology s command.Tables tt none,
 )
 
 -- ---- blocks
@@ -106,6 +109,9 @@ nine s k o f has (RefusalHolds.not_open l needs closed) = elim needs [ ]
 nine s k o f has (RefusalHolds.already_open changes are) = omega arith
 nine s k o f has (RefusalHolds.unknown_name p l r its appends lacks) = elim appends [ ]
 nine s k o f has (RefusalHolds.pending l r changes appends are many) = elim appends [ ]
+nine s k o f has (RefusalHolds.unknown_in_query p x its poses lacks) = elim poses [ ]
+nine s k o f has (RefusalHolds.never_given j uses never) = elim uses [ ]
+nine s k o f has (RefusalHolds.dropped j uses dropped) = elim uses [ ]
 
 begin_accepted : (s : MachineState) (k : ℕ) (o : Terminology) (f : Refusal) → ontology_of s.history ≡ Some o → s.session k ≡ None → RefusalHolds s (request.Plain (command.Begin k)) f → ⊥
 begin_accepted s k o f has closed (RefusalHolds.no_ontology needs none) = some_or_none o (ontology_of s.history) has none
@@ -113,6 +119,9 @@ begin_accepted s k o f has closed (RefusalHolds.not_open l needs shut) = elim ne
 begin_accepted s k o f has closed (RefusalHolds.already_open changes are) = some_or_none changes (s.session k) are closed
 begin_accepted s k o f has closed (RefusalHolds.unknown_name p l r its appends lacks) = elim appends [ ]
 begin_accepted s k o f has closed (RefusalHolds.pending l r changes appends are many) = elim appends [ ]
+begin_accepted s k o f has closed (RefusalHolds.unknown_in_query p x its poses lacks) = elim poses [ ]
+begin_accepted s k o f has closed (RefusalHolds.never_given j uses never) = elim uses [ ]
+begin_accepted s k o f has closed (RefusalHolds.dropped j uses dropped) = elim uses [ ]
 
 pub begin_refusals : BeginRefusals
 begin_refusals s k o has = (
@@ -134,10 +143,16 @@ of_change s c k r f AppendsChange.add (RefusalHolds.no_ontology needs none) = Of
 of_change s c k r f AppendsChange.add (RefusalHolds.not_open l NeedsOpen.add closed) = OfChange.want_session closed
 of_change s c k r f AppendsChange.add (RefusalHolds.unknown_name o l x has AppendsChange.add lacks) = OfChange.want_name o has lacks
 of_change s c k r f AppendsChange.add (RefusalHolds.pending l x changes AppendsChange.add are many) = OfChange.too_many changes are many
+of_change s c k r f AppendsChange.add (RefusalHolds.unknown_in_query p x its poses lacks) = elim poses [ ]
+of_change s c k r f AppendsChange.add (RefusalHolds.never_given j uses never) = elim uses [ ]
+of_change s c k r f AppendsChange.add (RefusalHolds.dropped j uses dropped) = elim uses [ ]
 of_change s c k r f AppendsChange.del (RefusalHolds.no_ontology needs none) = OfChange.want_ontology none
 of_change s c k r f AppendsChange.del (RefusalHolds.not_open l NeedsOpen.del closed) = OfChange.want_session closed
 of_change s c k r f AppendsChange.del (RefusalHolds.unknown_name o l x has AppendsChange.del lacks) = OfChange.want_name o has lacks
 of_change s c k r f AppendsChange.del (RefusalHolds.pending l x changes AppendsChange.del are many) = OfChange.too_many changes are many
+of_change s c k r f AppendsChange.del (RefusalHolds.unknown_in_query p x its poses lacks) = elim poses [ ]
+of_change s c k r f AppendsChange.del (RefusalHolds.never_given j uses never) = elim uses [ ]
+of_change s c k r f AppendsChange.del (RefusalHolds.dropped j uses dropped) = elim uses [ ]
 
 needs_of : (c : Command) (k : ℕ) (r : NamedRow) → AppendsChange c k r → NeedsOpen c k
 needs_of c k r AppendsChange.add = NeedsOpen.add
@@ -226,6 +241,9 @@ of_commit s k f (RefusalHolds.no_ontology needs none) = OfCommit.want_ontology n
 of_commit s k f (RefusalHolds.not_open l NeedsOpen.commit closed) = OfCommit.want_session closed
 of_commit s k f (RefusalHolds.unknown_name o l x has appends lacks) = elim appends [ ]
 of_commit s k f (RefusalHolds.pending l x changes appends are many) = elim appends [ ]
+of_commit s k f (RefusalHolds.unknown_in_query p x its poses lacks) = elim poses [ ]
+of_commit s k f (RefusalHolds.never_given j uses never) = elim uses [ ]
+of_commit s k f (RefusalHolds.dropped j uses dropped) = elim uses [ ]
 of_commit s k f (RefusalHolds.crowded changes are many) = OfCommit.crowds changes are many
 of_commit s k f (RefusalHolds.transaction_full changes are full) = OfCommit.fills changes are full
 
@@ -275,6 +293,9 @@ abort_eight s k o f has (RefusalHolds.no_ontology needs none) = absurd (some_or_
 abort_eight s k o f has (RefusalHolds.not_open l needs closed) = omega arith
 abort_eight s k o f has (RefusalHolds.unknown_name p l x its appends lacks) = elim appends [ ]
 abort_eight s k o f has (RefusalHolds.pending l x changes appends are many) = elim appends [ ]
+abort_eight s k o f has (RefusalHolds.unknown_in_query p x its poses lacks) = elim poses [ ]
+abort_eight s k o f has (RefusalHolds.never_given j uses never) = elim uses [ ]
+abort_eight s k o f has (RefusalHolds.dropped j uses dropped) = elim uses [ ]
 
 abort_accepted : (s : MachineState) (k : ℕ) (o : Terminology) (changes : List NamedChange) (f : Refusal) → ontology_of s.history ≡ Some o → s.session k ≡ Some changes
     → RefusalHolds s (request.Plain (command.Abort k)) f → ⊥
@@ -282,6 +303,9 @@ abort_accepted s k o changes f has are (RefusalHolds.no_ontology needs none) = s
 abort_accepted s k o changes f has are (RefusalHolds.not_open l NeedsOpen.abort closed) = some_or_none changes (s.session k) are closed
 abort_accepted s k o changes f has are (RefusalHolds.unknown_name p l x its appends lacks) = elim appends [ ]
 abort_accepted s k o changes f has are (RefusalHolds.pending l x others appends they many) = elim appends [ ]
+abort_accepted s k o changes f has are (RefusalHolds.unknown_in_query p x its poses lacks) = elim poses [ ]
+abort_accepted s k o changes f has are (RefusalHolds.never_given j uses never) = elim uses [ ]
+abort_accepted s k o changes f has are (RefusalHolds.dropped j uses dropped) = elim uses [ ]
 
 pub abort_refusals : AbortRefusals
 abort_refusals s k o has = (
@@ -295,29 +319,36 @@ ask_ten : (s : MachineState) (q : Question) (o : Terminology) (f : Refusal) → 
 ask_ten s q o f has (RefusalHolds.no_ontology needs none) = absurd (some_or_none o (ontology_of s.history) has none)
 ask_ten s q o f has (RefusalHolds.not_open l needs closed) = elim needs [ ]
 ask_ten s q o f has (RefusalHolds.unknown_name p l x its appends lacks) = elim appends [ ]
-ask_ten s q o f has (RefusalHolds.unknown_in_query p its lacks) = omega (arith, rank_query p q f lacks)
+ask_ten s q o f has (RefusalHolds.unknown_in_query p x its poses lacks) = omega (arith, rank_query p x f lacks)
 ask_ten s q o f has (RefusalHolds.pending l x changes appends are many) = elim appends [ ]
+ask_ten s q o f has (RefusalHolds.never_given j uses never) = elim uses [ ]
+ask_ten s q o f has (RefusalHolds.dropped j uses dropped) = elim uses [ ]
 
 known_no_fault : (o : Terminology) (atoms : List Atom) (e : ShapeError) → Tells e → All (IsKnown o) atoms → IsFirstFault o atoms e → ⊥
 known_no_fault o atoms e tells known fault =
     not_known o fault.atom e tells fault.fault
     (subst (IsKnown o) (get_or_from_slice_get atoms fault.place fault.atom fault.atom fault.there) (known fault.place fault.atom (slice_get_within atoms fault.place fault.atom fault.there)))
 
-known_none_lacked : (o : Terminology) (q : Question) (e : Refusal) → All (IsKnown o) q.atoms → LacksNameIn o q e → ⊥
+pub known_none_lacked : (o : Terminology) (q : Question) (e : Refusal) → All (IsKnown o) q.atoms → LacksNameIn o q e → ⊥
 known_none_lacked o q e known (LacksNameIn.concept fault) = known_no_fault o q.atoms _ tt known fault
 known_none_lacked o q e known (LacksNameIn.role fault) = known_no_fault o q.atoms _ tt known fault
+
+-- no name of the query is unknown in the ontology of the history
+none_unknown : (s : MachineState) (q : Question) (o p : Terminology) (f : Refusal) → ontology_of s.history ≡ Some o → ontology_of s.history ≡ Some p → All (IsKnown o) q.atoms → LacksNameIn p q f → ⊥
+none_unknown s q o p f has its known lacks = known_none_lacked p q f (subst (λ (t : Terminology). All (IsKnown t) q.atoms) (ontology_once s.history o p has its) known) lacks
 
 ask_accepted : (s : MachineState) (q : Question) (o : Terminology) (f : Refusal) → ontology_of s.history ≡ Some o → All (IsKnown o) q.atoms → RefusalHolds s (request.Plain (command.Ask q)) f → ⊥
 ask_accepted s q o f has known (RefusalHolds.no_ontology needs none) = some_or_none o (ontology_of s.history) has none
 ask_accepted s q o f has known (RefusalHolds.not_open l needs closed) = elim needs [ ]
 ask_accepted s q o f has known (RefusalHolds.unknown_name p l x its appends lacks) = elim appends [ ]
-ask_accepted s q o f has known (RefusalHolds.unknown_in_query p its lacks) =
-    known_none_lacked p q f (subst (λ (t : Terminology). All (IsKnown t) q.atoms) (ontology_once s.history o p has its) known) lacks
+ask_accepted s q o f has known (RefusalHolds.unknown_in_query p x its PosesQuery.ask lacks) = none_unknown s q o p f has its known lacks
 ask_accepted s q o f has known (RefusalHolds.pending l x changes appends are many) = elim appends [ ]
+ask_accepted s q o f has known (RefusalHolds.never_given j uses never) = elim uses [ ]
+ask_accepted s q o f has known (RefusalHolds.dropped j uses dropped) = elim uses [ ]
 
 pub name_lacked : (s : MachineState) (q : Question) (o : Terminology) (e : Refusal) → ontology_of s.history ≡ Some o → LacksNameIn o q e → IsRefusedFor s (request.Plain (command.Ask q)) e
 name_lacked s q o e has lacks = record {
-  holds = RefusalHolds.unknown_in_query o has lacks;
+  holds = RefusalHolds.unknown_in_query o q has PosesQuery.ask lacks;
   first = λ f h. subst (λ (n : ℕ). n ≤ rank f) (sym (rank_query o q e lacks)) (ask_ten s q o f has h);
 }
 
@@ -348,25 +379,147 @@ ask_refusals s q o has = (
   λ known f h. ask_accepted s q o f has known h,
 )
 
--- ---- check, tidy and reopen
+-- ---- prepare
+
+prepare_ten : (s : MachineState) (q : Question) (o : Terminology) (f : Refusal) → ontology_of s.history ≡ Some o → RefusalHolds s (request.Plain (command.Prepare q)) f → 10 ≤ rank f
+prepare_ten s q o f has (RefusalHolds.no_ontology needs none) = absurd (some_or_none o (ontology_of s.history) has none)
+prepare_ten s q o f has (RefusalHolds.not_open l needs closed) = elim needs [ ]
+prepare_ten s q o f has (RefusalHolds.unknown_name p l x its appends lacks) = elim appends [ ]
+prepare_ten s q o f has (RefusalHolds.unknown_in_query p x its poses lacks) = omega (arith, rank_query p x f lacks)
+prepare_ten s q o f has (RefusalHolds.pending l x changes appends are many) = elim appends [ ]
+prepare_ten s q o f has (RefusalHolds.never_given j uses never) = elim uses [ ]
+prepare_ten s q o f has (RefusalHolds.dropped j uses dropped) = elim uses [ ]
+prepare_ten s q o f has (RefusalHolds.no_slot full) = omega arith
+
+-- where all names of the query are known only the room may be lacking
+prepare_full : (s : MachineState) (q : Question) (o : Terminology) (f : Refusal) → ontology_of s.history ≡ Some o → All (IsKnown o) q.atoms → RefusalHolds s (request.Plain (command.Prepare q)) f
+    → (f ≡ refusal.NoSlot) × (room_of s.handles ≡ 0)
+prepare_full s q o f has known (RefusalHolds.no_ontology needs none) = absurd (some_or_none o (ontology_of s.history) has none)
+prepare_full s q o f has known (RefusalHolds.not_open l needs closed) = elim needs [ ]
+prepare_full s q o f has known (RefusalHolds.unknown_name p l x its appends lacks) = elim appends [ ]
+prepare_full s q o f has known (RefusalHolds.unknown_in_query p x its PosesQuery.prepare lacks) = absurd (none_unknown s q o p f has its known lacks)
+prepare_full s q o f has known (RefusalHolds.pending l x changes appends are many) = elim appends [ ]
+prepare_full s q o f has known (RefusalHolds.never_given j uses never) = elim uses [ ]
+prepare_full s q o f has known (RefusalHolds.dropped j uses dropped) = elim uses [ ]
+prepare_full s q o f has known (RefusalHolds.no_slot full) = (refl, full)
+
+pub prepared_name_lacked : (s : MachineState) (q : Question) (o : Terminology) (e : Refusal) → ontology_of s.history ≡ Some o → LacksNameIn o q e → IsRefusedFor s (request.Plain (command.Prepare q)) e
+prepared_name_lacked s q o e has lacks = record {
+  holds = RefusalHolds.unknown_in_query o q has PosesQuery.prepare lacks;
+  first = λ f h. subst (λ (n : ℕ). n ≤ rank f) (sym (rank_query o q e lacks)) (prepare_ten s q o f has h);
+}
+
+pub prepare_refusals : PrepareRefusals
+prepare_refusals s q o has = (
+  λ front more name t is known lacks.
+      prepared_name_lacked s q o (refusal.UnknownConcept name) has (LacksNameIn.concept (fault_behind o q.atoms front more (atom.Concept name t) (unknown.UnknownConcept name) is known (refl, lacks))),
+  λ front more name t u is known lacks.
+      prepared_name_lacked s q o (refusal.UnknownRole name) has (LacksNameIn.role (fault_behind o q.atoms front more (atom.Role name t u) (unknown.UnknownRole name) is known (refl, lacks))),
+  λ known full. record {
+    holds = RefusalHolds.no_slot full;
+    first = λ f h. let same : rank f ≡ 16 = ap rank (prepare_full s q o f has known h).0 in omega (arith, same);
+  },
+  λ known room f h. (let full = (prepare_full s q o f has known h).1 in omega (arith, full, room)),
+)
+
+-- ---- run and drop
+
+-- what may hold of them
+pub data OfHandle (s : MachineState) (h : Handle) : Refusal → Type 0 where
+  want_ontology : ontology_of s.history ≡ None → OfHandle s h refusal.NoOntology
+  not_given : IsGone s.handles h gone.Never → OfHandle s h refusal.NeverGiven
+  was_dropped : {last : ℕ} → IsGone s.handles h (gone.Dropped last) → OfHandle s h (refusal.Dropped last)
+
+pub of_handle : (s : MachineState) (c : Command) (h : Handle) (f : Refusal) → UsesHandle c h → RefusalHolds s (request.Plain c) f → OfHandle s h f
+of_handle s c h f UsesHandle.run (RefusalHolds.no_ontology needs none) = OfHandle.want_ontology none
+of_handle s c h f UsesHandle.run (RefusalHolds.not_open l needs closed) = elim needs [ ]
+of_handle s c h f UsesHandle.run (RefusalHolds.unknown_name p l x its appends lacks) = elim appends [ ]
+of_handle s c h f UsesHandle.run (RefusalHolds.unknown_in_query p x its poses lacks) = elim poses [ ]
+of_handle s c h f UsesHandle.run (RefusalHolds.pending l x changes appends are many) = elim appends [ ]
+of_handle s c h f UsesHandle.run (RefusalHolds.never_given j UsesHandle.run is) = OfHandle.not_given is
+of_handle s c h f UsesHandle.run (RefusalHolds.dropped j UsesHandle.run is) = OfHandle.was_dropped is
+of_handle s c h f UsesHandle.drop (RefusalHolds.no_ontology needs none) = OfHandle.want_ontology none
+of_handle s c h f UsesHandle.drop (RefusalHolds.not_open l needs closed) = elim needs [ ]
+of_handle s c h f UsesHandle.drop (RefusalHolds.unknown_name p l x its appends lacks) = elim appends [ ]
+of_handle s c h f UsesHandle.drop (RefusalHolds.unknown_in_query p x its poses lacks) = elim poses [ ]
+of_handle s c h f UsesHandle.drop (RefusalHolds.pending l x changes appends are many) = elim appends [ ]
+of_handle s c h f UsesHandle.drop (RefusalHolds.never_given j UsesHandle.drop is) = OfHandle.not_given is
+of_handle s c h f UsesHandle.drop (RefusalHolds.dropped j UsesHandle.drop is) = OfHandle.was_dropped is
+
+module _ (s : MachineState) (h : Handle) (o : Terminology) (has : ontology_of s.history ≡ Some o) where
+  never_first : (f : Refusal) → OfHandle s h f → 14 ≤ rank f
+  never_first f (OfHandle.want_ontology none) = absurd (some_or_none o (ontology_of s.history) has none)
+  never_first f (OfHandle.not_given is) = omega arith
+  never_first f (OfHandle.was_dropped is) = omega arith
+
+  dropped_first : (last : ℕ) → IsGone s.handles h (gone.Dropped last) → (f : Refusal) → OfHandle s h f → 15 ≤ rank f
+  dropped_first last was f (OfHandle.want_ontology none) = absurd (some_or_none o (ontology_of s.history) has none)
+  dropped_first last was f (OfHandle.not_given is) = absurd (is was.0.given)
+  dropped_first last was f (OfHandle.was_dropped is) = omega arith
+
+  live_accepted : IsHandleStore s.handles → IsLive s.handles h → (f : Refusal) → OfHandle s h f → ⊥
+  live_accepted store live f (OfHandle.want_ontology none) = some_or_none o (ontology_of s.history) has none
+  live_accepted store live f (OfHandle.not_given is) = gone_is_not_live s.handles h gone.Never store is live
+  live_accepted store live f (OfHandle.was_dropped {last = last} is) = gone_is_not_live s.handles h (gone.Dropped last) store is live
+
+-- `run` and `drop`, by the handle that they use
+abbrev pub OfUsing : Type 0
+OfUsing = (s : MachineState) (c : Command) (h : Handle) (o : Terminology) → UsesHandle c h → ontology_of s.history ≡ Some o
+    → (IsGone s.handles h gone.Never → IsRefusedFor s (request.Plain c) refusal.NeverGiven)
+    × ((last : ℕ) → IsGone s.handles h (gone.Dropped last) → IsRefusedFor s (request.Plain c) (refusal.Dropped last))
+    × (IsHandleStore s.handles → IsLive s.handles h → IsAccepted s (request.Plain c))
+
+pub of_using : OfUsing
+of_using s c h o uses has = (
+  λ is. record { holds = RefusalHolds.never_given h uses is; first = λ f x. never_first s h o has f (of_handle s c h f uses x) },
+  λ last is. record { holds = RefusalHolds.dropped h uses is; first = λ f x. dropped_first s h o has last is f (of_handle s c h f uses x) },
+  λ store live f x. live_accepted s h o has store live f (of_handle s c h f uses x),
+)
+
+using_handle : (c : Command) (h : Handle) → (c ≡ command.Run h) ⊎ (c ≡ command.Drop h) → UsesHandle c h
+using_handle c h (inl e) = subst (λ (d : Command). UsesHandle d h) (sym e) UsesHandle.run
+using_handle c h (inr e) = subst (λ (d : Command). UsesHandle d h) (sym e) UsesHandle.drop
+
+pub handle_refusals : HandleRefusals
+handle_refusals s c h o either has = of_using s c h o (using_handle c h either) has
+
+-- ---- check, tables, tidy and reopen
 
 check_accepted : (s : MachineState) (o : Terminology) (f : Refusal) → ontology_of s.history ≡ Some o → RefusalHolds s (request.Plain command.Check) f → ⊥
 check_accepted s o f has (RefusalHolds.no_ontology needs none) = some_or_none o (ontology_of s.history) has none
 check_accepted s o f has (RefusalHolds.not_open l needs closed) = elim needs [ ]
 check_accepted s o f has (RefusalHolds.unknown_name p l x its appends lacks) = elim appends [ ]
 check_accepted s o f has (RefusalHolds.pending l x changes appends are many) = elim appends [ ]
+check_accepted s o f has (RefusalHolds.unknown_in_query p x its poses lacks) = elim poses [ ]
+check_accepted s o f has (RefusalHolds.never_given j uses never) = elim uses [ ]
+check_accepted s o f has (RefusalHolds.dropped j uses dropped) = elim uses [ ]
+
+tables_accepted : (s : MachineState) (o : Terminology) (f : Refusal) → ontology_of s.history ≡ Some o → RefusalHolds s (request.Plain command.Tables) f → ⊥
+tables_accepted s o f has (RefusalHolds.no_ontology needs none) = some_or_none o (ontology_of s.history) has none
+tables_accepted s o f has (RefusalHolds.not_open l needs closed) = elim needs [ ]
+tables_accepted s o f has (RefusalHolds.unknown_name p l x its appends lacks) = elim appends [ ]
+tables_accepted s o f has (RefusalHolds.pending l x changes appends are many) = elim appends [ ]
+tables_accepted s o f has (RefusalHolds.unknown_in_query p x its poses lacks) = elim poses [ ]
+tables_accepted s o f has (RefusalHolds.never_given j uses never) = elim uses [ ]
+tables_accepted s o f has (RefusalHolds.dropped j uses dropped) = elim uses [ ]
 
 tidy_accepted : (s : MachineState) (f : Refusal) → RefusalHolds s (request.Plain command.Tidy) f → ⊥
 tidy_accepted s f (RefusalHolds.no_ontology needs none) = needs
 tidy_accepted s f (RefusalHolds.not_open l needs closed) = elim needs [ ]
 tidy_accepted s f (RefusalHolds.unknown_name p l x its appends lacks) = elim appends [ ]
 tidy_accepted s f (RefusalHolds.pending l x changes appends are many) = elim appends [ ]
+tidy_accepted s f (RefusalHolds.unknown_in_query p x its poses lacks) = elim poses [ ]
+tidy_accepted s f (RefusalHolds.never_given j uses never) = elim uses [ ]
+tidy_accepted s f (RefusalHolds.dropped j uses dropped) = elim uses [ ]
 
 reopen_accepted : (s : MachineState) (f : Refusal) → RefusalHolds s (request.Plain command.Reopen) f → ⊥
 reopen_accepted s f (RefusalHolds.no_ontology needs none) = needs
 reopen_accepted s f (RefusalHolds.not_open l needs closed) = elim needs [ ]
 reopen_accepted s f (RefusalHolds.unknown_name p l x its appends lacks) = elim appends [ ]
 reopen_accepted s f (RefusalHolds.pending l x changes appends are many) = elim appends [ ]
+reopen_accepted s f (RefusalHolds.unknown_in_query p x its poses lacks) = elim poses [ ]
+reopen_accepted s f (RefusalHolds.never_given j uses never) = elim uses [ ]
+reopen_accepted s f (RefusalHolds.dropped j uses dropped) = elim uses [ ]
 
 pub others_accepted : OthersAccepted
-others_accepted s = (λ o has f h. check_accepted s o f has h, tidy_accepted s, reopen_accepted s)
+others_accepted s = (λ o has f h. check_accepted s o f has h, λ o has f h. tables_accepted s o f has h, tidy_accepted s, reopen_accepted s)

@@ -54,7 +54,7 @@ raises_once old new before one other a b = λ i r. each r i
 
 pub begins_once : (h : History) (s t : MachineState) → IsInitial h s → IsInitial h t → s ≡ t
 begins_once h s t a b =
-    λ i. record { history = (a.history ∙ sym b.history) i; session = λ k. (a.closed k ∙ sym (b.closed k)) i; generation = λ r. each r i }
+    λ i. record { history = (a.history ∙ sym b.history) i; session = λ k. (a.closed k ∙ sym (b.closed k)) i; handles = (a.none_given ∙ sym b.none_given) i; generation = λ r. each r i }
   where
     each : (r : Role) → s.generation r ≡ t.generation r
     each r = not_apart (s.generation r) (t.generation r) (λ apart.

@@ -9,7 +9,7 @@ use Rattle.reply_text.specs.declared.reply.Reply.{Reply}
 use Rattle.script_reader.specs.declared.request.Request.{Request}
 use Rattle.base_engine.specs.Calls.{TouchesArea}
 use Rattle.base_engine.specs.Requests.{IsGiven}
-use Rattle.base_engine.specs.RunLaws.{AsManyReplies, NoneOpenAbove, OthersLeaveHistory, OthersLeaveState, StepsGoOn}
+use Rattle.base_engine.specs.RunLaws.{AsManyReplies, NoneOpenAbove, OtherRepliesLeaveHistory, OthersLeaveHistory, StepsGoOn}
 use Rattle.base_engine.specs.State.{MachineState, put_session}
 use Rattle.base_engine.specs.Steps.{AllStep, Does, StepsTo}
 
@@ -24,23 +24,26 @@ as_many_replies s t [] replies all = ap (λ (rs : List Reply). length rs) all.0
 as_many_replies s t (q ∷ requests) [] all = absurd all
 as_many_replies s t (q ∷ requests) (r ∷ replies) all = let rest : length replies ≡ length requests = as_many_replies all.0 t requests replies all.2 in omega (arith, rest)
 
-does_leave : (s t : MachineState) (q : Request) (r : Reply) → Does s q r t → (IsAcknowledgement r → ⊥) → t ≡ s
+does_leave : (s t : MachineState) (q : Request) (r : Reply) → Does s q r t → (IsAcknowledgement r → ⊥) → t.history ≡ s.history
 does_leave s t q r Does.block other = absurd (other tt)
 does_leave s t q r Does.begin other = absurd (other tt)
 does_leave s t q r (Does.add changes are) other = absurd (other tt)
 does_leave s t q r (Does.del changes are) other = absurd (other tt)
 does_leave s t q r (Does.commit c) other = absurd (other tt)
 does_leave s t q r Does.abort other = absurd (other tt)
-does_leave s t q r (Does.answered o rows b x) other = refl
-does_leave s t q r (Does.ask_clashes o rows place b x named) other = refl
+does_leave s t q r (Does.ask x) other = refl
+does_leave s t q r Does.prepare other = refl
+does_leave s t q r (Does.run p named x) other = refl
+does_leave s t q r Does.drop other = absurd (other tt)
 does_leave s t q r (Does.consistent o rows b x) other = refl
 does_leave s t q r (Does.inconsistent o rows place b x named) other = refl
+does_leave s t q r (Does.tables o rows b x) other = refl
 does_leave s t q r Does.tidy other = absurd (other tt)
 does_leave s t q r (Does.reopen i) other = absurd (other tt)
 
-pub others_leave_state : OthersLeaveState
-others_leave_state s t q r (StepsTo.refused refused) other = refl
-others_leave_state s t q r (StepsTo.done accepted does) other = does_leave s t q r does other
+pub other_replies_leave_history : OtherRepliesLeaveHistory
+other_replies_leave_history s t q r (StepsTo.refused refused) other = refl
+other_replies_leave_history s t q r (StepsTo.done accepted does) other = does_leave s t q r does other
 
 does_keep : (s t : MachineState) (q : Request) (r : Reply) → Does s q r t → (TouchesArea q → ⊥) → t.history ≡ s.history
 does_keep s t q r Does.block other = absurd (other tt)
@@ -49,10 +52,13 @@ does_keep s t q r (Does.add changes are) other = refl
 does_keep s t q r (Does.del changes are) other = refl
 does_keep s t q r (Does.commit c) other = absurd (other tt)
 does_keep s t q r Does.abort other = refl
-does_keep s t q r (Does.answered o rows b x) other = refl
-does_keep s t q r (Does.ask_clashes o rows place b x named) other = refl
+does_keep s t q r (Does.ask x) other = refl
+does_keep s t q r Does.prepare other = refl
+does_keep s t q r (Does.run p named x) other = refl
+does_keep s t q r Does.drop other = refl
 does_keep s t q r (Does.consistent o rows b x) other = refl
 does_keep s t q r (Does.inconsistent o rows place b x named) other = refl
+does_keep s t q r (Does.tables o rows b x) other = refl
 does_keep s t q r Does.tidy other = refl
 does_keep s t q r (Does.reopen i) other = absurd (other tt)
 
@@ -77,10 +83,13 @@ does_close s t q r n given great closed (Does.add {k = k} changes are) = other_s
 does_close s t q r n given great closed (Does.del {k = k} changes are) = other_session s k n _ given great closed
 does_close s t q r n given great closed (Does.commit {k = k} c) = ap (λ (z : MachineState). z.session n) c.state ∙ other_session s k n None given great closed
 does_close s t q r n given great closed (Does.abort {k = k}) = other_session s k n None given great closed
-does_close s t q r n given great closed (Does.answered o rows b x) = closed
-does_close s t q r n given great closed (Does.ask_clashes o rows place b x named) = closed
+does_close s t q r n given great closed (Does.ask x) = closed
+does_close s t q r n given great closed Does.prepare = closed
+does_close s t q r n given great closed (Does.run p named x) = closed
+does_close s t q r n given great closed Does.drop = closed
 does_close s t q r n given great closed (Does.consistent o rows b x) = closed
 does_close s t q r n given great closed (Does.inconsistent o rows place b x named) = closed
+does_close s t q r n given great closed (Does.tables o rows b x) = closed
 does_close s t q r n given great closed Does.tidy = closed
 does_close s t q r n given great closed (Does.reopen i) = i.closed n
 

@@ -29,9 +29,9 @@ use Rattle.script_reader.specs.declared.request.Request.TheVariants as request
 use Rattle.base_engine.specs.State.{IsBase, IsLiveIn, Raises, MachineState, put_session}
 use Rattle.base_engine.specs.Refusals.{AppendsChange}
 use Rattle.base_engine.specs.Requests.{commit_of}
-use Rattle.base_engine.specs.Steps.{Counts, Does, StepsTo}
+use Rattle.base_engine.specs.Steps.{Counts, Does, IsReplyIn, StepsTo}
 use Rattle.base_engine.specs.StepExamples
-use Rattle.base_engine.specs.StepExamples.{ann, adds, bare_base, both_open, contradicted, deletes, first_open, first_told, no_session, resting, with_ann, working}
+use Rattle.base_engine.specs.StepExamples.{ann, adds, bare_base, both_open, contradicted, deletes, first_open, first_told, no_handle, no_session, resting, with_ann, working}
 use Rattle.base_engine.proofs.RefusalTable.{abort_refusals, ask_refusals, begin_refusals, block_refusals, of_appending, commit_refusals, others_accepted}
 use Rattle.base_engine.proofs.RowsThere.{counts_are, fits, names_of, rows_are, rows_of}
 
@@ -64,7 +64,7 @@ closed_again changes n = by (n == 0)
     by false = refl
 
 closes : (h : History) (changes : List NamedChange) (generation : Role → ℕ) → put_session 0 None (working h changes generation) ≡ resting h generation
-closes h changes generation = λ i. record { history = h; session = λ n. closed_again changes n i; generation = generation }
+closes h changes generation = λ i. record { history = h; session = λ n. closed_again changes n i; handles = no_handle; generation = generation }
 
 -- ---- commits
 
@@ -76,17 +76,17 @@ module _ (before after : List (List NamedChange)) (changes : List NamedChange) (
     (session : ℕ → Option (List NamedChange)) (k : ℕ) (are : session k ≡ Some changes) where
   pub commits : (rest : ℕ → Option (List NamedChange)) → ((n : ℕ) → (if n == k then None else session n) ≡ rest n)
       → (number added removed : ℕ) → number ≡ length after → Counts (Over staff before) (Over staff after) added removed
-      → StepsTo (record { history = Over staff before; session = session; generation = generation }) (commit_of k) (reply.Committed number added removed)
-      (record { history = Over staff after; session = rest; generation = generation })
+      → StepsTo (record { history = Over staff before; session = session; handles = no_handle; generation = generation }) (commit_of k) (reply.Committed number added removed)
+      (record { history = Over staff after; session = rest; handles = no_handle; generation = generation })
   commits rest left number added removed counted counts =
-      StepsTo.done ((commit_refusals (record { history = Over staff before; session = session; generation = generation }) k staff refl).3 changes are
+      StepsTo.done ((commit_refusals (record { history = Over staff before; session = session; handles = no_handle; generation = generation }) k staff refl).3 changes are
       (fits (with_transaction changes (Over staff before)) rows names) room)
       (Does.commit (record {
         changes = changes;
         were = are;
         generation = generation;
         raises = same_generations before (before ++ changes ∷ []) generation;
-        state = λ i. record { history = sym next i; session = λ n. sym (left n) i; generation = generation };
+        state = λ i. record { history = sym next i; session = λ n. sym (left n) i; handles = no_handle; generation = generation };
         number_is = counted;
         counts = counts;
       }))
@@ -144,7 +144,7 @@ none_left n = by (n == 1) (n == 0)
 pub two_sessions : StepExamples.TwoSessions
 unfolding second_left
 two_sessions generation = (
-  record { history = with_ann; session = second_left; generation = generation },
+  record { history = with_ann; session = second_left; handles = no_handle; generation = generation },
   commits [] ((adds ann ∷ []) ∷ []) (adds ann ∷ []) generation refl (omega arith) (omega arith) (omega arith) (both_open (adds ann ∷ [])) 0 refl second_left (λ n. refl) 1 1 0 refl (counts_are bare_base with_ann),
   (
     resting (Over staff ((adds ann ∷ []) ∷ (adds ann ∷ []) ∷ [])) generation,
@@ -168,7 +168,7 @@ written_twice one two rest n = by (n == 0)
     by false = refl
 
 rewritten : (h : History) (one two : List NamedChange) (generation : Role → ℕ) → put_session 0 (Some two) (working h one generation) ≡ working h two generation
-rewritten h one two generation = λ i. record { history = h; session = λ n. written_twice (Some one) (Some two) no_session n i; generation = generation }
+rewritten h one two generation = λ i. record { history = h; session = λ n. written_twice (Some one) (Some two) no_session n i; handles = no_handle; generation = generation }
 
 ends_in : (s : MachineState) (q : Request) (r : Reply) (t u : MachineState) → t ≡ u → StepsTo s q r t → StepsTo s q r u
 ends_in s q r t u same step = subst (StepsTo s q r) same step
@@ -199,11 +199,11 @@ abort_forgets changes generation =
     (StepsTo.done ((abort_refusals (working bare_base changes generation) 0 staff refl).1 changes refl) Does.abort)
 
 pub tidy_keeps : StepExamples.TidyKeeps
-tidy_keeps s = StepsTo.done (others_accepted s).1 Does.tidy
+tidy_keeps s = StepsTo.done (others_accepted s).2 Does.tidy
 
 pub reopen_closes_sessions : StepExamples.ReopenClosesSessions
 reopen_closes_sessions s t o k initial has =
-    (StepsTo.done (others_accepted s).2 (Does.reopen initial), (commit_refusals t k o (subst (λ (h : History). ontology_of h ≡ Some o) (sym initial.history) has)).0 (initial.closed k))
+    (StepsTo.done (others_accepted s).3 (Does.reopen initial), (commit_refusals t k o (subst (λ (h : History). ontology_of h ≡ Some o) (sym initial.history) has)).0 (initial.closed k))
 
 -- ---- questions
 
@@ -220,12 +220,15 @@ no_clash c clash = by clash.violates.before clash.violates.inclusion clash.viola
         let h : head.Basic (basic.Concept 1) ≡ i.head = ap (λ (j : Inclusion). j.head) same in cc
     by (suc n) i at nothing = let e : None ≡ Some i = at in cc
 
-known_staff : All (IsKnown staff) who_is_staff.atoms
+pub known_staff : All (IsKnown staff) who_is_staff.atoms
 known_staff = All-cons (IsKnown staff) (atom.Concept (codes "Staff") (term.Var (codes "x"))) [] (1, omega arith, refl) (All-nil (IsKnown staff))
+
+pub staff_are_answered : {s : MachineState} → s.history ≡ with_ann → IsReplyIn s who_is_staff (reply.Answers ((codes "ann" ∷ []) ∷ []))
+staff_are_answered e = IsReplyIn.answered staff ann_is_a_professor (subst (λ (h : History). IsBase h staff ann_is_a_professor) (sym e) base_with_ann) (no_clash, ann_is_staff)
 
 pub ask_answers : StepExamples.AskAnswers
 ask_answers generation =
-    StepsTo.done ((ask_refusals (resting with_ann generation) who_is_staff staff refl).2 known_staff) (Does.answered staff ann_is_a_professor base_with_ann (no_clash, ann_is_staff))
+    StepsTo.done ((ask_refusals (resting with_ann generation) who_is_staff staff refl).2 known_staff) (Does.ask (staff_are_answered refl))
 
 pub check_finds_none : StepExamples.CheckFindsNone
 check_finds_none generation = StepsTo.done ((others_accepted (resting with_ann generation)).0 staff refl) (Does.consistent staff ann_is_a_professor base_with_ann no_clash)
@@ -240,5 +243,5 @@ check_tells_first generation = StepsTo.done ((others_accepted (resting contradic
 
 pub ask_tells_clash : StepExamples.AskTellsClash
 ask_tells_clash generation q known = StepsTo.done ((ask_refusals (resting contradicted generation) q clashing refl).2 known)
-    (Does.ask_clashes clashing a_and_b first_of_all contradicted_base clashes_in_order
-    (record { name = refl; path = (record { name = refl; inverse = refl }, (record { name = refl; inverse = refl }, tt)); inclusion = refl }))
+    (Does.ask (IsReplyIn.clashes clashing a_and_b first_of_all contradicted_base clashes_in_order
+    (record { name = refl; path = (record { name = refl; inverse = refl }, (record { name = refl; inverse = refl }, tt)); inclusion = refl })))

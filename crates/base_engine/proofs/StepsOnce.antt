@@ -13,13 +13,16 @@ use Rattle.dl_base.specs.declared.row.NamedChange.{NamedChange}
 use Rattle.dl_base.proofs.ClashLemmas.{first_clash_once, replies_once as base_replies_once}
 use Rattle.dl_base.proofs.DerivationLemmas.{all-by}
 use Rattle.clash_report.specs.Report.{IsNamedClash, IsNamedRole}
+use Rattle.gen_arena.proofs.LawLemmas.{names_one}
+use Rattle.table_report.specs.TableLines.{AreTableLines}
+use Rattle.table_report.proofs.OrderLemmas.{lines_once}
 use Rattle.base_store.specs.History.{History, Empty, Over, transaction_count, with_ontology, with_transaction}
 use Rattle.reply_text.specs.declared.reply.Reply.{Reply}
 use Rattle.reply_text.specs.declared.reply.Reply.TheVariants as reply
 use Rattle.script_reader.specs.declared.request.Request.{Request}
 use Rattle.base_engine.specs.State.{MachineState, IsBase, IsWithinLimits, Raises, put_session}
 use Rattle.base_engine.specs.Requests.{IsGiven}
-use Rattle.base_engine.specs.Steps.{AllStep, AreReplies, Commits, Counts, Does, StepsTo, appended}
+use Rattle.base_engine.specs.Steps.{AllStep, AreReplies, Commits, Counts, Does, IsReplyIn, StepsTo, appended}
 use Rattle.base_engine.proofs.RefusedOnce.{refused_once}
 use Rattle.base_engine.proofs.RowsOnce.{begins_once, counts_once, ontology_once, raises_once, rows_once}
 
@@ -69,6 +72,13 @@ module _ (h : History) (within : IsWithinLimits h) where
   told_same o p rows others x y c d a b same m n =
       clash_named_once p y c d (subst (λ (z : Place). IsNamedClash p z c) same (subst (λ (t : Terminology). IsNamedClash t x c) (ontology_once h o p a.ontology_is b.ontology_is) m)) n
 
+  pub lines_same : (generation : Role → ℕ) (o p : Terminology) (rows others : List NamedRow) (xs ys : List (List ℕ)) → IsBase h o rows → IsBase h p others
+      → AreTableLines o rows generation xs → AreTableLines p others generation ys → xs ≡ ys
+  lines_same generation o p rows others xs ys a b r s =
+      let same = base_same o p rows others a b in
+      lines_once p others generation xs ys
+      (subst (λ (zs : List NamedRow). AreTableLines p zs generation xs) same.1 (subst (λ (z : Terminology). AreTableLines z rows generation xs) same.0 r)) s
+
 -- ---- a step
 
 changes_same : (s : MachineState) (k : ℕ) (changes others : List NamedChange) → s.session k ≡ Some changes → s.session k ≡ Some others → changes ≡ others
@@ -84,6 +94,17 @@ commits_once s k n a r m b g t u x y =
     let counts = counts_once s.history u.history a r b g (subst (λ (z : MachineState). Counts s.history z.history a r) state x.counts) y.counts in
     (λ i. reply.Committed (number i) (counts.0 i) (counts.1 i), state)
 
+reply_in_once : (s : MachineState) (q : Question) (one other : Reply) → IsWithinLimits s.history → IsReplyIn s q one → IsReplyIn s q other → one ≡ other
+reply_in_once s q one other within (IsReplyIn.answered {keys = keys} o rows a x) (IsReplyIn.answered {keys = others} p ys b y) =
+    ap reply.Answers (let same = reply_same s.history within q o p rows ys (Answers keys) (Answers others) a b x y in cc)
+reply_in_once s q one other within (IsReplyIn.answered {keys = keys} o rows a x) (IsReplyIn.clashes p ys place b y named) =
+    absurd (let same = reply_same s.history within q o p rows ys (Answers keys) (Inconsistent place) a b x y in cc)
+reply_in_once s q one other within (IsReplyIn.clashes p ys place b y named) (IsReplyIn.answered {keys = keys} o rows a x) =
+    absurd (let same = reply_same s.history within q o p rows ys (Answers keys) (Inconsistent place) a b x y in cc)
+reply_in_once s q one other within (IsReplyIn.clashes {c = c} o rows place a x named) (IsReplyIn.clashes {c = d} p ys at b y spelled) =
+    let same : place ≡ at = let e = reply_same s.history within q o p rows ys (Inconsistent place) (Inconsistent at) a b x y in cc in
+    ap reply.Inconsistent (told_same s.history within o p rows ys place at c d a b same named spelled)
+
 does_once : (s : MachineState) (q : Request) (one other : Reply) (t u : MachineState) → IsWithinLimits s.history → Does s q one t → Does s q other u → (one ≡ other) × (t ≡ u)
 does_once s q one other t u within Does.block Does.block = (refl, refl)
 does_once s q one other t u within Does.begin Does.begin = (refl, refl)
@@ -93,15 +114,11 @@ does_once s q one other t u within (Does.del {k = k} {r = r} changes a) (Does.de
     (refl, ap (λ (cs : List NamedChange). put_session k (Some (appended cs (record { add = false; row = r }))) s) (changes_same s k changes others a b))
 does_once s q one other t u within (Does.commit x) (Does.commit y) = commits_once s _ _ _ _ _ _ _ t u x y
 does_once s q one other t u within Does.abort Does.abort = (refl, refl)
-does_once s q one other t u within (Does.answered {q = ask} {keys = keys} o rows a x) (Does.answered {keys = others} p ys b y) =
-    (ap reply.Answers (let same = reply_same s.history within ask o p rows ys (Answers keys) (Answers others) a b x y in cc), refl)
-does_once s q one other t u within (Does.answered {q = ask} {keys = keys} o rows a x) (Does.ask_clashes p ys place b y named) =
-    absurd (let same = reply_same s.history within ask o p rows ys (Answers keys) (Inconsistent place) a b x y in cc)
-does_once s q one other t u within (Does.ask_clashes {q = ask} p ys place b y named) (Does.answered {keys = keys} o rows a x) =
-    absurd (let same = reply_same s.history within ask o p rows ys (Answers keys) (Inconsistent place) a b x y in cc)
-does_once s q one other t u within (Does.ask_clashes {q = ask} {c = c} o rows place a x named) (Does.ask_clashes {c = d} p ys at b y spelled) =
-    let same : place ≡ at = let e = reply_same s.history within ask o p rows ys (Inconsistent place) (Inconsistent at) a b x y in cc in
-    (ap reply.Inconsistent (told_same s.history within o p rows ys place at c d a b same named spelled), refl)
+does_once s q one other t u within (Does.ask {q = asked} x) (Does.ask y) = (reply_in_once s asked one other within x y, refl)
+does_once s q one other t u within Does.prepare Does.prepare = (refl, refl)
+does_once s q one other t u within (Does.run {h = h} asked a x) (Does.run again b y) =
+    (reply_in_once s again one other within (subst (λ (z : Question). IsReplyIn s z one) (names_one s.handles h asked again a b) x) y, refl)
+does_once s q one other t u within Does.drop Does.drop = (refl, refl)
 does_once s q one other t u within (Does.consistent o rows a x) (Does.consistent p ys b y) = (refl, refl)
 does_once s q one other t u within (Does.consistent o rows a x) (Does.inconsistent p ys place b y named) =
     absurd (let same = clash_same s.history within o p rows ys None (Some place) a b x y in cc)
@@ -110,6 +127,7 @@ does_once s q one other t u within (Does.inconsistent p ys place b y named) (Doe
 does_once s q one other t u within (Does.inconsistent {c = c} o rows place a x named) (Does.inconsistent {c = d} p ys at b y spelled) =
     let same : place ≡ at = let e = clash_same s.history within o p rows ys (Some place) (Some at) a b x y in cc in
     (ap reply.Inconsistent (told_same s.history within o p rows ys place at c d a b same named spelled), refl)
+does_once s q one other t u within (Does.tables {lines = lines} o rows a x) (Does.tables {lines = others} p ys b y) = (ap reply.Table (lines_same s.history within s.generation o p rows ys lines others a b x y), refl)
 does_once s q one other t u within Does.tidy Does.tidy = (refl, refl)
 does_once s q one other t u within (Does.reopen a) (Does.reopen b) = (refl, begins_once s.history t u a b)
 
@@ -142,10 +160,13 @@ does_within s q r t given within (Does.add changes a) = within
 does_within s q r t given within (Does.del changes a) = within
 does_within s q r t given within (Does.commit c) = limits_of (with_transaction c.changes s.history) t.history (sym (ap (λ (z : MachineState). z.history) c.state)) (limits_more s.history c.changes within)
 does_within s q r t given within Does.abort = within
-does_within s q r t given within (Does.answered o rows a x) = within
-does_within s q r t given within (Does.ask_clashes o rows place a x named) = within
+does_within s q r t given within (Does.ask x) = within
+does_within s q r t given within Does.prepare = within
+does_within s q r t given within (Does.run p a x) = within
+does_within s q r t given within Does.drop = within
 does_within s q r t given within (Does.consistent o rows a x) = within
 does_within s q r t given within (Does.inconsistent o rows place a x named) = within
+does_within s q r t given within (Does.tables o rows a x) = within
 does_within s q r t given within Does.tidy = within
 does_within s q r t given within (Does.reopen a) = limits_of s.history t.history (sym a.history) within
 

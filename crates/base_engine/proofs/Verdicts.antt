@@ -9,6 +9,11 @@ use Rattle.dl_base.specs.declared.row.NamedRow.{NamedRow}
 use Rattle.dl_base.specs.declared.row.NamedRow.TheVariants as row
 use Rattle.dl_base.specs.declared.row.NamedChange.{NamedChange}
 use Rattle.axiom_reader.specs.declared.block.BlockError.{BlockError}
+use Rattle.gen_arena.specs.Store.{IsGone, IsLive, WasGiven, room_of}
+use Rattle.gen_arena.specs.declared.handle.Handle.{Handle}
+use Rattle.gen_arena.specs.declared.handle.Gone.{Gone}
+use Rattle.gen_arena.specs.declared.handle.Gone.TheVariants as gone
+use Rattle.base_engine.proofs.HandleLemmas.{live_or_gone}
 use Rattle.query_shape.specs.ShapeFault.{IsAtomFault, IsFirstFault, IsKnown}
 use Rattle.query_shape.specs.declared.numbering.ShapeError.{ShapeError}
 use Rattle.query_shape.specs.declared.numbering.ShapeError.TheVariants as unknown
@@ -23,8 +28,8 @@ use Rattle.script_reader.specs.declared.command.Command.TheVariants as command
 use Rattle.script_reader.specs.declared.request.Request.{Request}
 use Rattle.script_reader.specs.declared.request.Request.TheVariants as request
 use Rattle.base_engine.specs.State.{MachineState}
-use Rattle.base_engine.specs.Refusals.{AppendsChange, IsAccepted, IsRefusedFor, LacksNameOf, LacksNameIn, RefusalHolds}
-use Rattle.base_engine.proofs.RefusalTable.{abort_refusals, ask_refusals, begin_refusals, block_refusals, of_appending, commit_refusals, line_refusals, name_lacked, no_ontology, others_accepted}
+use Rattle.base_engine.specs.Refusals.{AppendsChange, IsAccepted, IsRefusedFor, LacksNameOf, LacksNameIn, RefusalHolds, UsesHandle}
+use Rattle.base_engine.proofs.RefusalTable.{OfHandle, abort_refusals, ask_refusals, begin_refusals, block_refusals, of_appending, of_handle, of_using, commit_refusals, line_refusals, name_lacked, no_ontology, others_accepted, prepare_refusals, prepared_name_lacked, some_or_none}
 use Rattle.base_engine.proofs.RowsThere.{above, decide_crowded, decide_name}
 
 abbrev Verdict : MachineState → Request → Type 0
@@ -37,12 +42,18 @@ blank_accepted s f (RefusalHolds.no_ontology needs none) = needs
 blank_accepted s f (RefusalHolds.not_open l needs closed) = elim needs [ ]
 blank_accepted s f (RefusalHolds.unknown_name p l x its appends lacks) = elim appends [ ]
 blank_accepted s f (RefusalHolds.pending l x changes appends are many) = elim appends [ ]
+blank_accepted s f (RefusalHolds.unknown_in_query p x its poses lacks) = elim poses [ ]
+blank_accepted s f (RefusalHolds.never_given j uses never) = elim uses [ ]
+blank_accepted s f (RefusalHolds.dropped j uses dropped) = elim uses [ ]
 
 opening_accepted : (s : MachineState) (f : Refusal) → RefusalHolds s (request.Plain command.Ontology) f → ⊥
 opening_accepted s f (RefusalHolds.no_ontology needs none) = needs
 opening_accepted s f (RefusalHolds.not_open l needs closed) = elim needs [ ]
 opening_accepted s f (RefusalHolds.unknown_name p l x its appends lacks) = elim appends [ ]
 opening_accepted s f (RefusalHolds.pending l x changes appends are many) = elim appends [ ]
+opening_accepted s f (RefusalHolds.unknown_in_query p x its poses lacks) = elim poses [ ]
+opening_accepted s f (RefusalHolds.never_given j uses never) = elim uses [ ]
+opening_accepted s f (RefusalHolds.dropped j uses dropped) = elim uses [ ]
 
 -- ---- names
 
@@ -134,6 +145,28 @@ module _ (s : MachineState) where
     ask_verdict q (inl known) = inr ((ask_refusals s q o has).2 known)
     ask_verdict q (inr found) = let lacks = query_refusal o q found.0 found.1 in inl (lacks.0, name_lacked s q o lacks.0 has lacks.1)
 
+    room_or_full : (q : Question) → All (IsKnown o) q.atoms → (0 < room_of s.handles) ⊎ (room_of s.handles ≤ 0) → Verdict s (request.Plain (command.Prepare q))
+    room_or_full q known (inl room) = inr ((prepare_refusals s q o has).3 known (omega (arith, room)))
+    room_or_full q known (inr full) = inl (refusal.NoSlot, (prepare_refusals s q o has).2 known (omega (arith, full)))
+
+    prepare_verdict : (q : Question) → All (IsKnown o) q.atoms ⊎ ((a : Atom) × IsFirstFault o q.atoms (error_of a)) → Verdict s (request.Plain (command.Prepare q))
+    prepare_verdict q (inl known) = room_or_full q known (above 0 (room_of s.handles))
+    prepare_verdict q (inr found) = let lacks = query_refusal o q found.0 found.1 in inl (lacks.0, prepared_name_lacked s q o lacks.0 has lacks.1)
+
+    -- a handle that is live and was given is accepted
+    given_live : (c : Command) (h : Handle) → UsesHandle c h → WasGiven s.handles h → IsLive s.handles h → IsAccepted s (request.Plain c)
+    given_live c h uses given live f holds = by_handle f (of_handle s c h f uses holds)
+      where
+        by_handle : (e : Refusal) → OfHandle s h e → ⊥
+        by_handle e (OfHandle.want_ontology none) = some_or_none o (ontology_of s.history) has none
+        by_handle e (OfHandle.not_given is) = is given
+        by_handle e (OfHandle.was_dropped is) = is.0.not_live live
+
+    handle_verdict : (c : Command) (h : Handle) → UsesHandle c h → WasGiven s.handles h × IsLive s.handles h ⊎ ((why : Gone) × IsGone s.handles h why) → Verdict s (request.Plain c)
+    handle_verdict c h uses (inl x) = inr (given_live c h uses x.0 x.1)
+    handle_verdict c h uses (inr (gone.Never, is)) = inl (refusal.NeverGiven, (of_using s c h o uses has).0 is)
+    handle_verdict c h uses (inr (gone.Dropped last, is)) = inl (refusal.Dropped last, (of_using s c h o uses has).1 last is)
+
   -- a command where there is an ontology or none
   verdict_of_command : (c : Command) (found : Option Terminology) → ontology_of s.history ≡ found → Verdict s (request.Plain c)
   verdict_of_command command.Blank found e = inr (blank_accepted s)
@@ -150,13 +183,20 @@ module _ (s : MachineState) where
   verdict_of_command (command.Abort k) (Some o) e = abort_verdict o e k (s.session k) refl
   verdict_of_command (command.Ask q) None e = inl (refusal.NoOntology, no_ontology s (command.Ask q) tt e)
   verdict_of_command (command.Ask q) (Some o) e = ask_verdict o e q (first_unknown o q.atoms)
+  verdict_of_command (command.Prepare q) None e = inl (refusal.NoOntology, no_ontology s (command.Prepare q) tt e)
+  verdict_of_command (command.Prepare q) (Some o) e = prepare_verdict o e q (first_unknown o q.atoms)
+  verdict_of_command (command.Run h) None e = inl (refusal.NoOntology, no_ontology s (command.Run h) tt e)
+  verdict_of_command (command.Run h) (Some o) e = handle_verdict o e (command.Run h) h UsesHandle.run (live_or_gone s.handles h)
+  verdict_of_command (command.Drop h) None e = inl (refusal.NoOntology, no_ontology s (command.Drop h) tt e)
+  verdict_of_command (command.Drop h) (Some o) e = handle_verdict o e (command.Drop h) h UsesHandle.drop (live_or_gone s.handles h)
   verdict_of_command command.Check None e = inl (refusal.NoOntology, no_ontology s command.Check tt e)
   verdict_of_command command.Check (Some o) e = inr ((others_accepted s).0 o e)
-  verdict_of_command command.Tidy found e = inr (others_accepted s).1
-  verdict_of_command command.Reopen found e = inr (others_accepted s).2
-  verdict_of_command command.Unbuilt found e = inl (refusal.Unbuilt, (line_refusals s).1)
+  verdict_of_command command.Tables None e = inl (refusal.NoOntology, no_ontology s command.Tables tt e)
+  verdict_of_command command.Tables (Some o) e = inr ((others_accepted s).1 o e)
+  verdict_of_command command.Tidy found e = inr (others_accepted s).2
+  verdict_of_command command.Reopen found e = inr (others_accepted s).3
 
 pub refused_or_accepted : (s : MachineState) (q : Request) → Verdict s q
 refused_or_accepted s (request.Plain c) = verdict_of_command s c (ontology_of s.history) refl
 refused_or_accepted s (request.Block result) = verdict_of_block s result (ontology_of s.history) refl
-refused_or_accepted s (request.Bad e) = inl (e, (line_refusals s).0 e)
+refused_or_accepted s (request.Bad e) = inl (e, line_refusals s e)

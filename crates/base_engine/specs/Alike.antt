@@ -1,5 +1,5 @@
 -- What a step looks at: two states are alike where their histories have the same ontology, the same rows, the same number of transactions
--- and take the same bytes, whichever transactions led there, and where their sessions and generations are the same.
+-- and take the same bytes, whichever transactions led there, and where their sessions, handles and generations are the same.
 use Rattle.std.specs.Prelude.{◌≡◌, ◌↔◌, List}
 use Rattle.dl_base.specs.declared.row.NamedRow.{NamedRow}
 use Rattle.base_store.specs.History.{AreRowsAfter, History, transaction_count, used, ontology_of}
@@ -17,6 +17,7 @@ pub record LookAlike (g h : History) : Type 0 where
 pub record AreAlike (s u : MachineState) : Type 0 where
   pub histories : LookAlike s.history u.history
   pub sessions : s.session ≡ u.session
+  pub handles : s.handles ≡ u.handles
   pub generations : s.generation ≡ u.generation
 
 -- From states that are alike each request has the same reply and leads to states that are alike: so whoever answers for the machine needs no

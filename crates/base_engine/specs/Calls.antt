@@ -88,10 +88,13 @@ TouchesArea (request.Plain c) = by c
     by (command.Commit k) = Unit {0}
     by (command.Abort k) = ⊥
     by (command.Ask q) = ⊥
+    by (command.Prepare q) = ⊥
+    by (command.Run h) = ⊥
+    by (command.Drop h) = ⊥
     by command.Check = ⊥
+    by command.Tables = ⊥
     by command.Tidy = ⊥
     by command.Reopen = Unit {0}
-    by command.Unbuilt = ⊥
 TouchesArea (request.Block result) = Unit {0}
 TouchesArea (request.Bad e) = ⊥
 

@@ -9,6 +9,9 @@ use Rattle.dl_base.specs.declared.row.NamedRow.{NamedRow}
 use Rattle.dl_base.specs.declared.row.NamedRow.TheVariants as row
 use Rattle.dl_base.specs.declared.row.NamedChange.{NamedChange}
 use Rattle.axiom_reader.specs.declared.block.BlockError.{BlockError}
+use Rattle.gen_arena.specs.Store.{IsGone, IsHandleStore, IsLive, room_of}
+use Rattle.gen_arena.specs.declared.handle.Handle.{Handle}
+use Rattle.gen_arena.specs.declared.handle.Gone.TheVariants as gone
 use Rattle.query_shape.specs.ShapeFault.{IsKnown}
 use Rattle.base_store.specs.Area.{area_limit}
 use Rattle.base_store.specs.History.{used, with_ontology, with_transaction, ontology_of}
@@ -21,9 +24,9 @@ use Rattle.script_reader.specs.declared.request.Request.TheVariants as request
 use Rattle.base_engine.specs.State.{MachineState}
 use Rattle.base_engine.specs.Refusals.{IsAccepted, IsRefusedFor}
 
--- a line that is refused by itself is refused so whatever the state, and so is what isn't built
+-- a line that is refused by itself is refused so whatever the state
 abbrev pub LineRefusals : Type 0
-LineRefusals = (s : MachineState) → ((e : Refusal) → IsRefusedFor s (request.Bad e) e) × IsRefusedFor s (request.Plain command.Unbuilt) refusal.Unbuilt
+LineRefusals = (s : MachineState) (e : Refusal) → IsRefusedFor s (request.Bad e) e
 
 -- where there is no ontology, each of these commands is refused first for want of one
 abbrev pub OntologyRefusals : Type 0
@@ -34,7 +37,11 @@ OntologyRefusals = (s : MachineState) → ontology_of s.history ≡ None
     × ((k : ℕ) → IsRefusedFor s (request.Plain (command.Commit k)) refusal.NoOntology)
     × ((k : ℕ) → IsRefusedFor s (request.Plain (command.Abort k)) refusal.NoOntology)
     × ((q : Question) → IsRefusedFor s (request.Plain (command.Ask q)) refusal.NoOntology)
+    × ((q : Question) → IsRefusedFor s (request.Plain (command.Prepare q)) refusal.NoOntology)
+    × ((h : Handle) → IsRefusedFor s (request.Plain (command.Run h)) refusal.NoOntology)
+    × ((h : Handle) → IsRefusedFor s (request.Plain (command.Drop h)) refusal.NoOntology)
     × IsRefusedFor s (request.Plain command.Check) refusal.NoOntology
+    × IsRefusedFor s (request.Plain command.Tables) refusal.NoOntology
 
 -- of a block: that there is an ontology already, whatever the block holds; its line that offends; that the log is full
 abbrev pub BlockRefusals : Type 0
@@ -85,9 +92,27 @@ AskRefusals = (s : MachineState) (q : Question) (o : Terminology) → ontology_o
     → IsRefusedFor s (request.Plain (command.Ask q)) (refusal.UnknownRole name))
     × (All (IsKnown o) q.atoms → IsAccepted s (request.Plain (command.Ask q)))
 
--- `check` needs an ontology alone, `tidy` and `reopen` nothing
+-- of `prepare`: no ontology; the concept, or the role, of the first atom whose name the ontology lacks; that no slot is left
+abbrev pub PrepareRefusals : Type 0
+PrepareRefusals = (s : MachineState) (q : Question) (o : Terminology) → ontology_of s.history ≡ Some o
+    → ((front more : List Atom) (name : List ℕ) (t : Term) → q.atoms ≡ front ++ atom.Concept name t ∷ more → All (IsKnown o) front → (Contains o.concepts name → ⊥)
+    → IsRefusedFor s (request.Plain (command.Prepare q)) (refusal.UnknownConcept name))
+    × ((front more : List Atom) (name : List ℕ) (t u : Term) → q.atoms ≡ front ++ atom.Role name t u ∷ more → All (IsKnown o) front → (Contains o.roles name → ⊥)
+    → IsRefusedFor s (request.Plain (command.Prepare q)) (refusal.UnknownRole name))
+    × (All (IsKnown o) q.atoms → room_of s.handles ≡ 0 → IsRefusedFor s (request.Plain (command.Prepare q)) refusal.NoSlot)
+    × (All (IsKnown o) q.atoms → 1 ≤ room_of s.handles → IsAccepted s (request.Plain (command.Prepare q)))
+
+-- of `run` and `drop`: no ontology; that the handle was never given; that its query was dropped, with the last generation of the slot
+abbrev pub HandleRefusals : Type 0
+HandleRefusals = (s : MachineState) (c : Command) (h : Handle) (o : Terminology) → (c ≡ command.Run h) ⊎ (c ≡ command.Drop h) → ontology_of s.history ≡ Some o
+    → (IsGone s.handles h gone.Never → IsRefusedFor s (request.Plain c) refusal.NeverGiven)
+    × ((last : ℕ) → IsGone s.handles h (gone.Dropped last) → IsRefusedFor s (request.Plain c) (refusal.Dropped last))
+    × (IsHandleStore s.handles → IsLive s.handles h → IsAccepted s (request.Plain c))
+
+-- `check` and `tables` need an ontology alone, `tidy` and `reopen` nothing
 abbrev pub OthersAccepted : Type 0
 OthersAccepted = (s : MachineState)
     → ((o : Terminology) → ontology_of s.history ≡ Some o → IsAccepted s (request.Plain command.Check))
+    × ((o : Terminology) → ontology_of s.history ≡ Some o → IsAccepted s (request.Plain command.Tables))
     × IsAccepted s (request.Plain command.Tidy)
     × IsAccepted s (request.Plain command.Reopen)

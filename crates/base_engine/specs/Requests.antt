@@ -19,10 +19,13 @@ IsGivenCommand (command.Del k r) = k ≤ 15
 IsGivenCommand (command.Commit k) = k ≤ 15
 IsGivenCommand (command.Abort k) = k ≤ 15
 IsGivenCommand (command.Ask q) = Unit {0}
+IsGivenCommand (command.Prepare q) = Unit {0}
+IsGivenCommand (command.Run h) = Unit {0}
+IsGivenCommand (command.Drop h) = Unit {0}
 IsGivenCommand command.Check = Unit {0}
+IsGivenCommand command.Tables = Unit {0}
 IsGivenCommand command.Tidy = Unit {0}
 IsGivenCommand command.Reopen = Unit {0}
-IsGivenCommand command.Unbuilt = Unit {0}
 
 -- a refusal of a line by itself
 abbrev pub IsOfLine : Refusal → Type 0
@@ -40,7 +43,9 @@ IsOfLine refusal.AlreadyOpen = ⊥
 IsOfLine refusal.Pending = ⊥
 IsOfLine refusal.Crowded = ⊥
 IsOfLine refusal.LogFull = ⊥
-IsOfLine refusal.Unbuilt = ⊥
+IsOfLine refusal.NeverGiven = ⊥
+IsOfLine (refusal.Dropped last) = ⊥
+IsOfLine refusal.NoSlot = ⊥
 
 -- what a block comes to: an ontology within the limits, or a line that offends
 abbrev pub IsGivenBlock : Result Terminology BlockError → Type 0

@@ -18,9 +18,9 @@ StepsGoOn = (s t u : MachineState) (requests : List Request) (replies : List Rep
 abbrev pub AsManyReplies : Type 0
 AsManyReplies = (s t : MachineState) (requests : List Request) (replies : List Reply) → AllStep s requests replies t → length replies ≡ length requests
 
--- a reply that doesn't tell that something was done leaves the state as it was
-abbrev pub OthersLeaveState : Type 0
-OthersLeaveState = (s t : MachineState) (q : Request) (r : Reply) → StepsTo s q r t → (IsAcknowledgement r → ⊥) → t ≡ s
+-- a step whose reply doesn't tell that something was done leaves the history as it was
+abbrev pub OtherRepliesLeaveHistory : Type 0
+OtherRepliesLeaveHistory = (s t : MachineState) (q : Request) (r : Reply) → StepsTo s q r t → (IsAcknowledgement r → ⊥) → t.history ≡ s.history
 
 -- a request that is no block, no `commit` and no `reopen` leaves the history as it was
 abbrev pub OthersLeaveHistory : Type 0

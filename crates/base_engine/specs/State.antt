@@ -1,10 +1,12 @@
 -- The state of the machine, and the one that it begins with.
 use Rattle.std.specs.Prelude.{◌≡◌, ◌==◌, ℕ, ◌+◌, List, Option, Some, None, if◌then◌else◌}
 use Rattle.dl_base.specs.Ontology.{Terminology, IsTerminology}
+use Rattle.dl_base.specs.Query.{Question}
 use Rattle.dl_base.specs.Completion.{IsLive}
 use Rattle.dl_base.specs.declared.concept.Role.{Role}
 use Rattle.dl_base.specs.declared.row.NamedRow.{NamedRow}
 use Rattle.dl_base.specs.declared.row.NamedChange.{NamedChange}
+use Rattle.gen_arena.specs.Store.{HandleStore, empty_store}
 use Rattle.base_store.specs.History.{History, AreRowsAfter, ontology_of}
 
 -- ---- histories
@@ -27,20 +29,27 @@ pub record IsLiveIn (h : History) (r : Role) : Type 0 where
 
 -- ---- states
 
--- A history; for each session, from 0 to 15, that it is closed, or open with changes; and a generation for each role.
+-- A history; for each session, from 0 to 15, that it is closed, or open with changes; the prepared queries behind their handles; and a
+-- generation for each role.
 pub record MachineState : Type 0 where
   pub history : History
   pub session : ℕ → Option (List NamedChange)
+  pub handles : HandleStore Question
   pub generation : Role → ℕ
 
 -- this session is closed, or open with these changes, and all else is as it was
 abbrev pub put_session : ℕ → Option (List NamedChange) → MachineState → MachineState
 put_session k changes s = record s { session = λ n. if n == k then changes else s.session n }
 
--- The machine begins with this history: all sessions are closed, and each live role has generation 1, all others 0.
+-- so many slots are given to prepared queries at most
+abbrev pub handle_limit : ℕ
+handle_limit = 256
+
+-- The machine begins with this history: all sessions are closed, no handle is given, and each live role has generation 1, all others 0.
 pub record IsInitial (h : History) (s : MachineState) : Type 0 where
   pub history : s.history ≡ h
   pub closed : (k : ℕ) → s.session k ≡ None
+  pub none_given : s.handles ≡ empty_store handle_limit
   pub live : (r : Role) → IsLiveIn h r → s.generation r ≡ 1
   pub others : (r : Role) → (IsLiveIn h r → ⊥) → s.generation r ≡ 0
 

@@ -8,6 +8,8 @@ use Rattle.dl_base.specs.declared.concept.Role.{Role}
 use Rattle.dl_base.specs.declared.row.NamedRow.{NamedRow}
 use Rattle.dl_base.specs.declared.row.NamedRow.TheVariants as row
 use Rattle.dl_base.specs.declared.row.NamedChange.{NamedChange}
+use Rattle.gen_arena.specs.Store.{HandleStore, empty_store, with_value, without}
+use Rattle.gen_arena.specs.declared.handle.Handle.{Handle}
 use Rattle.query_shape.specs.ShapeFault.{IsKnown}
 use Rattle.base_store.specs.History.{History, Empty, Over, transaction_count, ontology_of}
 use Rattle.reply_text.specs.declared.reply.Refusal.TheVariants as refusal
@@ -15,7 +17,7 @@ use Rattle.reply_text.specs.declared.reply.Reply.{Reply}
 use Rattle.reply_text.specs.declared.reply.Reply.TheVariants as reply
 use Rattle.script_reader.specs.declared.command.Command.TheVariants as command
 use Rattle.script_reader.specs.declared.request.Request.TheVariants as request
-use Rattle.base_engine.specs.State.{MachineState, IsInitial}
+use Rattle.base_engine.specs.State.{MachineState, IsInitial, handle_limit}
 use Rattle.base_engine.specs.Refusals.{IsRefusedFor}
 use Rattle.base_engine.specs.Requests.{commit_of}
 use Rattle.base_engine.specs.Steps.{AllStep, StepsTo}
@@ -34,11 +36,19 @@ first_open changes n = if n == 0 then Some changes else None
 abbrev pub both_open : List NamedChange → ℕ → Option (List NamedChange)
 both_open changes n = if n == 0 then Some changes else if n == 1 then Some changes else None
 
+-- no query is prepared
+abbrev pub no_handle : HandleStore Question
+no_handle = empty_store handle_limit
+
 abbrev pub resting : History → (Role → ℕ) → MachineState
-resting h generation = record { history = h; session = no_session; generation = generation }
+resting h generation = record { history = h; session = no_session; handles = no_handle; generation = generation }
 
 abbrev pub working : History → List NamedChange → (Role → ℕ) → MachineState
-working h changes generation = record { history = h; session = first_open changes; generation = generation }
+working h changes generation = record { history = h; session = first_open changes; handles = no_handle; generation = generation }
+
+-- prepared queries are kept behind these handles
+abbrev pub keeping : History → HandleStore Question → (Role → ℕ) → MachineState
+keeping h handles generation = record (resting h generation) { handles = handles }
 
 abbrev pub adds : NamedRow → NamedChange
 adds r = record { add = true; row = r }
@@ -80,6 +90,39 @@ abbrev pub ReopenClosesSessions : Type 0
 ReopenClosesSessions = (s t : MachineState) (o : Terminology) (k : ℕ) → IsInitial s.history t → ontology_of s.history ≡ Some o
     → StepsTo s (request.Plain command.Reopen) (reply.Reopened (transaction_count s.history)) t × IsRefusedFor t (commit_of k) refusal.NotOpen
 
+-- ---- handles
+
+-- the first handle that is given in the first slot, and the second
+abbrev pub first_handle : Handle
+first_handle = record { slot = 0; generation = 1 }
+
+abbrev pub second_handle : Handle
+second_handle = record { slot = 0; generation = 2 }
+
+-- a query is kept under the first handle
+abbrev pub one_kept : HandleStore Question
+one_kept = with_value who_is_staff no_handle
+
+abbrev pub PrepareKeeps : Type 0
+PrepareKeeps = (generation : Role → ℕ) → StepsTo (resting bare_base generation) (request.Plain (command.Prepare who_is_staff)) (reply.Prepared first_handle) (keeping bare_base one_kept generation)
+
+-- it is answered over the rows as they are then
+abbrev pub RunAnswers : Type 0
+RunAnswers = (generation : Role → ℕ) → StepsTo (keeping with_ann one_kept generation) (request.Plain (command.Run first_handle)) (reply.Answers ((codes "ann" ∷ []) ∷ [])) (keeping with_ann one_kept generation)
+
+-- Once it is dropped its handle is refused with the last generation of its slot, and the slot is given again under another handle.
+abbrev pub DropForgets : Type 0
+DropForgets = (generation : Role → ℕ)
+    → StepsTo (keeping bare_base one_kept generation) (request.Plain (command.Drop first_handle)) reply.Done (keeping bare_base (without first_handle one_kept) generation)
+    × IsRefusedFor (keeping bare_base (without first_handle one_kept) generation) (request.Plain (command.Run first_handle)) (refusal.Dropped 1)
+    × StepsTo (keeping bare_base (without first_handle one_kept) generation) (request.Plain (command.Prepare who_is_staff)) (reply.Prepared second_handle)
+    (keeping bare_base (with_value who_is_staff (without first_handle one_kept)) generation)
+
+-- behind `reopen` no handle was ever given
+abbrev pub ReopenForgetsHandles : Type 0
+ReopenForgetsHandles = (s t : MachineState) (o : Terminology) (h : Handle) → IsInitial s.history t → ontology_of s.history ≡ Some o
+    → IsRefusedFor t (request.Plain (command.Run h)) refusal.NeverGiven × IsRefusedFor t (request.Plain (command.Drop h)) refusal.NeverGiven
+
 -- ---- commits
 
 -- session 0 has these changes over this history: its commit replies so, and the history has one transaction more
@@ -114,7 +157,7 @@ DeleteThenAdd = CommitReplies [] (deletes ann ∷ adds ann ∷ []) ((deletes ann
 
 -- two sessions that add one row: it is new by the first commit alone
 abbrev pub TwoSessions : Type 0
-TwoSessions = (generation : Role → ℕ) → AllStep (record { history = bare_base; session = both_open (adds ann ∷ []); generation = generation })
+TwoSessions = (generation : Role → ℕ) → AllStep (record { history = bare_base; session = both_open (adds ann ∷ []); handles = no_handle; generation = generation })
     (commit_of 0 ∷ commit_of 1 ∷ []) (reply.Committed 1 1 0 ∷ reply.Committed 2 0 0 ∷ [])
     (resting (Over staff ((adds ann ∷ []) ∷ (adds ann ∷ []) ∷ [])) generation)
 

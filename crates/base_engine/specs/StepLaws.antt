@@ -2,10 +2,13 @@
 use Rattle.std.specs.Prelude.{◌≡◌, ◌⊎◌, ℕ, List, All, Option, Some}
 use Rattle.dl_base.specs.Clashes.{IsFirstClash, Place}
 use Rattle.dl_base.specs.Ontology.{Terminology}
+use Rattle.dl_base.specs.Query.{Question}
 use Rattle.dl_base.specs.Replies.{IsReply, Replied}
 use Rattle.dl_base.specs.declared.concept.Role.{Role}
 use Rattle.dl_base.specs.declared.row.NamedChange.{NamedChange}
 use Rattle.dl_base.specs.declared.row.NamedRow.{NamedRow}
+use Rattle.gen_arena.specs.Store.{IsHandleStore, Names}
+use Rattle.table_report.specs.TableLines.{AreTableLines}
 use Rattle.base_store.specs.History.{History, with_transaction}
 use Rattle.reply_text.specs.declared.reply.Refusal.{Refusal}
 use Rattle.reply_text.specs.declared.reply.Reply.{Reply}
@@ -37,7 +40,7 @@ abbrev pub StepsOnce : Type 0
 StepsOnce = (s : MachineState) (q : Request) (one other : Reply) (t u : MachineState) → IsWithinLimits s.history → StepsTo s q one t → StepsTo s q other u → (one ≡ other) × (t ≡ u)
 
 -- What nobody computes is there for the request: generations behind a commit, a reply to a query, a first clash or that there is
--- none, the state that a base begins with.
+-- none, the lines of the tables, the state that a base begins with.
 abbrev pub HasOutcome : MachineState → Request → Type 0
 HasOutcome s (request.Plain c) = command_has c
   where
@@ -50,10 +53,13 @@ HasOutcome s (request.Plain c) = command_has c
     command_has (command.Commit k) = (changes : List NamedChange) → s.session k ≡ Some changes → (generation : Role → ℕ) × Raises s.history (with_transaction changes s.history) s.generation generation
     command_has (command.Abort k) = Unit {0}
     command_has (command.Ask q) = (o : Terminology) (rows : List NamedRow) → IsBase s.history o rows → (r : Replied) × IsReply o rows q r
+    command_has (command.Prepare q) = Unit {0}
+    command_has (command.Run h) = (q : Question) (o : Terminology) (rows : List NamedRow) → Names s.handles h q → IsBase s.history o rows → (r : Replied) × IsReply o rows q r
+    command_has (command.Drop h) = Unit {0}
     command_has command.Check = (o : Terminology) (rows : List NamedRow) → IsBase s.history o rows → (c : Option Place) × IsFirstClash o rows c
+    command_has command.Tables = (o : Terminology) (rows : List NamedRow) → IsBase s.history o rows → (lines : List (List ℕ)) × AreTableLines o rows s.generation lines
     command_has command.Tidy = Unit {0}
     command_has command.Reopen = (t : MachineState) × IsInitial s.history t
-    command_has command.Unbuilt = Unit {0}
 HasOutcome s (request.Block result) = Unit {0}
 HasOutcome s (request.Bad e) = Unit {0}
 
@@ -71,6 +77,10 @@ AcceptedSteps = (s : MachineState) (q : Request) → IsGiven q → IsWithinLimit
 -- a step leaves an ontology within the limits
 abbrev pub StaysWithinLimits : Type 0
 StaysWithinLimits = (s : MachineState) (q : Request) (r : Reply) (t : MachineState) → IsGiven q → IsWithinLimits s.history → StepsTo s q r t → IsWithinLimits t.history
+
+-- a step leaves a handle store
+abbrev pub HandlesStayAStore : Type 0
+HandlesStayAStore = (s : MachineState) (q : Request) (r : Reply) (t : MachineState) → IsHandleStore s.handles → StepsTo s q r t → IsHandleStore t.handles
 
 -- the replies to a list of requests are one list and lead to one state
 abbrev pub AllRepliesOnce : Type 0

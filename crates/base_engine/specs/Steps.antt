@@ -10,6 +10,9 @@ use Rattle.dl_base.specs.declared.concept.Role.{Role}
 use Rattle.dl_base.specs.declared.row.NamedRow.{NamedRow}
 use Rattle.dl_base.specs.declared.row.NamedChange.{NamedChange}
 use Rattle.clash_report.specs.Report.{IsNamedClash}
+use Rattle.gen_arena.specs.Store.{Names, next_handle, with_value, without}
+use Rattle.gen_arena.specs.declared.handle.Handle.{Handle}
+use Rattle.table_report.specs.TableLines.{AreTableLines}
 use Rattle.base_store.specs.History.{History, AreRowsAfter, transaction_count, with_ontology, with_transaction}
 use Rattle.reply_text.specs.declared.reply.Refusal.{Refusal}
 use Rattle.reply_text.specs.declared.reply.Reply.{Reply}
@@ -53,6 +56,12 @@ pub record Commits (s : MachineState) (k number added removed : ℕ) (t : Machin
 abbrev pub appended : List NamedChange → NamedChange → List NamedChange
 appended changes change = changes ++ change ∷ []
 
+-- The reply to a query in a state: its answers, or the first clash by names.
+pub data IsReplyIn (s : MachineState) (q : Question) : Reply → Type 0 where
+  answered : {keys : List (List (List ℕ))} (o : Terminology) (rows : List NamedRow) → IsBase s.history o rows → IsReply o rows q (Answers keys) → IsReplyIn s q (reply.Answers keys)
+  clashes : {c : Clash} (o : Terminology) (rows : List NamedRow) (place : Place) → IsBase s.history o rows → IsReply o rows q (Inconsistent place) → IsNamedClash o place c
+      → IsReplyIn s q (reply.Inconsistent c)
+
 -- Of a request that is accepted: its reply, and the state behind it.
 pub data Does (s : MachineState) : Request → Reply → MachineState → Type 0 where
   block : {o : Terminology} → Does s (request.Block (Ok o)) (reply.Loaded (length o.inclusions)) (record s { history = with_ontology o s.history; generation = λ r. 0 })
@@ -64,14 +73,16 @@ pub data Does (s : MachineState) : Request → Reply → MachineState → Type 0
   commit : {k number added removed : ℕ} {t : MachineState} → Commits s k number added removed t
       → Does s (request.Plain (command.Commit k)) (reply.Committed number added removed) t
   abort : {k : ℕ} → Does s (request.Plain (command.Abort k)) reply.Done (put_session k None s)
-  answered : {q : Question} {keys : List (List (List ℕ))} (o : Terminology) (rows : List NamedRow) → IsBase s.history o rows → IsReply o rows q (Answers keys)
-      → Does s (request.Plain (command.Ask q)) (reply.Answers keys) s
-  ask_clashes : {q : Question} {c : Clash} (o : Terminology) (rows : List NamedRow) (place : Place) → IsBase s.history o rows → IsReply o rows q (Inconsistent place)
-      → IsNamedClash o place c → Does s (request.Plain (command.Ask q)) (reply.Inconsistent c) s
+  ask : {q : Question} {r : Reply} → IsReplyIn s q r → Does s (request.Plain (command.Ask q)) r s
+  prepare : {q : Question} → Does s (request.Plain (command.Prepare q)) (reply.Prepared (next_handle s.handles)) (record s { handles = with_value q s.handles })
+  run : {h : Handle} {r : Reply} (q : Question) → Names s.handles h q → IsReplyIn s q r → Does s (request.Plain (command.Run h)) r s
+  drop : {h : Handle} → Does s (request.Plain (command.Drop h)) reply.Done (record s { handles = without h s.handles })
   consistent : (o : Terminology) (rows : List NamedRow) → IsBase s.history o rows → IsFirstClash o rows None
       → Does s (request.Plain command.Check) reply.Consistent s
   inconsistent : {c : Clash} (o : Terminology) (rows : List NamedRow) (place : Place) → IsBase s.history o rows → IsFirstClash o rows (Some place)
       → IsNamedClash o place c → Does s (request.Plain command.Check) (reply.Inconsistent c) s
+  tables : {lines : List (List ℕ)} (o : Terminology) (rows : List NamedRow) → IsBase s.history o rows → AreTableLines o rows s.generation lines
+      → Does s (request.Plain command.Tables) (reply.Table lines) s
   tidy : Does s (request.Plain command.Tidy) reply.Done s
   reopen : {t : MachineState} → IsInitial s.history t → Does s (request.Plain command.Reopen) (reply.Reopened (transaction_count s.history)) t
 

@@ -2,10 +2,10 @@
 
 ghost use Rattle.base_engine.specs.Alike.{AlikeStepAlike};
 ghost use Rattle.base_engine.specs.GenerationExamples.{BeginsAfresh, RisesWhereLive, StaysWhereDead};
-ghost use Rattle.base_engine.specs.RefusalLaws.{AbortRefusals, AskRefusals, BeginRefusals, BlockRefusals, ChangeRefusals, CommitRefusals, LineRefusals, OntologyRefusals, OthersAccepted};
-ghost use Rattle.base_engine.specs.RunLaws.{AsManyReplies, NoneOpenAbove, OthersLeaveHistory, OthersLeaveState, StepsGoOn};
-ghost use Rattle.base_engine.specs.StepExamples.{AbortForgets, AddThenDelete, AskAnswers, AskTellsClash, BlockLoads, CheckFindsNone, CheckTellsFirst, CommitAdds, CommitAddsAgain, CommitOfNothing, CommitRemoves, CommitRemovesAbsent, DeleteThenAdd, ReopenClosesSessions, SessionTakesChanges, TidyKeeps, TwoSessions};
-ghost use Rattle.base_engine.specs.StepLaws.{AcceptedSteps, BeginningNeverLacks, BeginsOnce, GenerationsNeverLack, NeverBoth, RefusedOnce, RefusedOrAccepted, AllRepliesOnce, StaysWithinLimits, StepsOnce};
+ghost use Rattle.base_engine.specs.RefusalLaws.{AbortRefusals, AskRefusals, BeginRefusals, BlockRefusals, ChangeRefusals, CommitRefusals, HandleRefusals, LineRefusals, OntologyRefusals, OthersAccepted, PrepareRefusals};
+ghost use Rattle.base_engine.specs.RunLaws.{AsManyReplies, NoneOpenAbove, OtherRepliesLeaveHistory, OthersLeaveHistory, StepsGoOn};
+ghost use Rattle.base_engine.specs.StepExamples.{AbortForgets, AddThenDelete, AskAnswers, AskTellsClash, BlockLoads, CheckFindsNone, CheckTellsFirst, CommitAdds, CommitAddsAgain, CommitOfNothing, CommitRemoves, CommitRemovesAbsent, DeleteThenAdd, DropForgets, PrepareKeeps, ReopenClosesSessions, ReopenForgetsHandles, RunAnswers, SessionTakesChanges, TidyKeeps, TwoSessions};
+ghost use Rattle.base_engine.specs.StepLaws.{AcceptedSteps, BeginningNeverLacks, BeginsOnce, GenerationsNeverLack, HandlesStayAStore, NeverBoth, RefusedOnce, RefusedOrAccepted, AllRepliesOnce, StaysWithinLimits, StepsOnce};
 
 /// The machine begins with a history in one state.
 pub fn begins_once()
@@ -47,12 +47,17 @@ pub fn stays_within_limits()
     ensures { StaysWithinLimits }
 {}
 
+/// A step leaves a handle store.
+pub fn handles_stay_a_store()
+    ensures { HandlesStayAStore }
+{}
+
 /// The replies to a list of requests are one list and lead to one state.
 pub fn replies_once()
     ensures { AllRepliesOnce }
 {}
 
-/// A line that is refused by itself is refused so whatever the state, and so is what isn't built.
+/// A line that is refused by itself is refused so whatever the state.
 pub fn line_refusals()
     ensures { LineRefusals }
 {}
@@ -92,7 +97,17 @@ pub fn ask_refusals()
     ensures { AskRefusals }
 {}
 
-/// `check` needs an ontology alone; `tidy` and `reopen` need nothing.
+/// The refusals of `prepare` where there is an ontology, in their order.
+pub fn prepare_refusals()
+    ensures { PrepareRefusals }
+{}
+
+/// The refusals of `run` and `drop` where there is an ontology.
+pub fn handle_refusals()
+    ensures { HandleRefusals }
+{}
+
+/// `check` and `tables` need an ontology alone; `tidy` and `reopen` need nothing.
 pub fn others_accepted()
     ensures { OthersAccepted }
 {}
@@ -162,6 +177,26 @@ pub fn reopen_closes_sessions()
     ensures { ReopenClosesSessions }
 {}
 
+/// The first query that is prepared is kept under the first handle.
+pub fn prepare_keeps()
+    ensures { PrepareKeeps }
+{}
+
+/// A prepared query is answered from the rows as they are then.
+pub fn run_answers()
+    ensures { RunAnswers }
+{}
+
+/// A dropped handle is refused with the last generation of its slot, and the slot is given again under another handle.
+pub fn drop_forgets()
+    ensures { DropForgets }
+{}
+
+/// Behind `reopen` no handle was ever given.
+pub fn reopen_forgets_handles()
+    ensures { ReopenForgetsHandles }
+{}
+
 /// A query is answered from the rows of the history.
 pub fn ask_answers()
     ensures { AskAnswers }
@@ -207,9 +242,9 @@ pub fn as_many_replies()
     ensures { AsManyReplies }
 {}
 
-/// A reply that doesn't tell that something was done leaves the state as it was.
-pub fn others_leave_state()
-    ensures { OthersLeaveState }
+/// A step whose reply doesn't tell that something was done leaves the history as it was.
+pub fn other_replies_leave_history()
+    ensures { OtherRepliesLeaveHistory }
 {}
 
 /// A request that is no block, no `commit` and no `reopen` leaves the history as it was.
