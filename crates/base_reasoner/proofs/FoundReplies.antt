@@ -13,7 +13,7 @@ use Rattle.dl_base.specs.declared.query.Atom.TheVariants as atom
 use Rattle.dl_base.specs.declared.query.Term.{Term}
 use Rattle.dl_base.specs.declared.row.NamedRow.{NamedRow}
 use Rattle.dl_base.proofs.PlaceLemmas.{member_at}
-use Rattle.query_shape.specs.Shape.{NumbersAtom}
+use Rattle.query_shape.specs.Shape.{IsShapeOf, Layout, NumbersAtom}
 use Rattle.query_shape.specs.ShapeFault.{IsKnown}
 use Rattle.query_shape.specs.declared.layout.ShapeAtom.{ShapeAtom}
 use Rattle.query_shape.specs.declared.layout.ShapeAtom.TheVariants as numbered
@@ -34,9 +34,13 @@ known_atoms o ts [] (n ∷ ns) all = absurd all
 known_atoms o ts (a ∷ atoms) [] all = absurd all
 known_atoms o ts (a ∷ atoms) (n ∷ ns) all = All-cons (IsKnown o) a atoms (known_atom o ts a n all.0) (known_atoms o ts atoms ns all.1)
 
--- the ontology has the names of a query that is bound to it
+-- the ontology has the names of a query that has a shape in it
+pub shape_known : (o : Terminology) (q : Question) (s : Layout) → IsShapeOf o q s → All (IsKnown o) q.atoms
+shape_known o q s is = known_atoms o s.terms q.atoms s.atoms is.atoms_are
+
+-- and of one that is bound to it
 pub bound_known : (o : Terminology) (q : Question) (b : BoundQuery) → IsBoundTo o q b → All (IsKnown o) q.atoms
-bound_known o q b is = known_atoms o b.shape.terms q.atoms b.shape.atoms is.shape.atoms_are
+bound_known o q b is = shape_known o q b.shape is.shape
 
 -- ---- replies
 

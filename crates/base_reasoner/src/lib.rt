@@ -1,4 +1,4 @@
-//! What a base derives by its ontology: completed tables, the first clash, and the replies to questions.
+//! What a base derives by its ontology: completed tables, the first clash, the replies to questions, and the lines of the tables.
 #![tactic(auto)]
 
 mod reasoner;

@@ -1,5 +1,5 @@
 //! What a base derives by its ontology.
-ghost use Rattle.std.specs.Prelude.{◌≡◌, ◌<◌, ◌≤◌, ℕ, List, All, IfOk, OnErr, OnOk, length};
+ghost use Rattle.std.specs.Prelude.{◌≡◌, ◌<◌, ◌≤◌, ℕ, List, All, IfOk, MatchOption, OnErr, OnOk, length};
 ghost use Rattle.assert_tables.specs.Rows.{individuals_of};
 ghost use Rattle.answer_core.specs.Binding.{IsBoundTo};
 ghost use Rattle.clash_report.specs.Report.{AreWithinNames, IsReported};
@@ -16,6 +16,8 @@ ghost use Rattle.query_shape.specs.declared.numbering.ShapeError.TheVariants as 
 ghost use Rattle.base_reasoner.specs.Questions.{IsReplyToCheck, IsReplyToQuery};
 ghost use Rattle.base_reasoner.specs.Renewal.{IsRenewed};
 ghost use Rattle.base_engine.specs.Refusals.{LacksNameIn};
+ghost use Rattle.table_report.specs.TableLines.{AreTableLines};
+ghost use Rattle.witness_book.specs.Witnesses.{generation_of};
 
 use answer_core::{Bound, answers, bind};
 use assert_tables::Assertions;
@@ -23,12 +25,13 @@ use clash_report::first_clash;
 use completion::Completed;
 use dl_base::{Clash, NameBook, Ontology, Query};
 use horn_closure::{Rules, Scratch, Steps};
-use query_shape::ShapeError;
-use reply_text::{Refusal, Reply};
+use query_shape::{ShapeError, shape};
+use reply_text::{Refusal, Reply, TableLines};
 use role_graph::RoleGraph;
 use std::alloc::{AllocError, Global};
 use std::marker::Model;
 use std::sync::ledger::Ledger;
+use table_report::table_lines;
 
 /// An ontology with its rules, their scratch and the graph of its roles, and the tables that are completed by it. Contracts see the
 /// ontology and the tables.
@@ -144,6 +147,23 @@ impl Reasoner {
             Ok(bound) => self.reply(alloc, individuals, q, &bound),
             Err(error) => Ok(Reply::Error(unknown(error)?)),
         }
+    }
+
+    /// The refusal of a query that has a name which the ontology lacks, and none exactly where it has all of them.
+    pub fn unknown_name(&self, alloc: Global, q: &Query) -> Result<Option<Refusal>, AllocError>
+        ensures { IfOk result (λ found. MatchOption found (All (IsKnown self.now.ontology) q.now.atoms) (LacksNameIn self.now.ontology q.now)) }
+    {
+        match shape(alloc, q, &self.ontology) {
+            Ok(_) => Ok(None),
+            Err(error) => Ok(Some(unknown(error)?)),
+        }
+    }
+
+    /// The lines of the completed tables, each witness with its generation.
+    pub fn lines(&self, alloc: Global, individuals: &NameBook) -> Result<TableLines, AllocError>
+        ensures { (rows : List NamedRow) → IsNamedCompletion self.now.ontology individuals.now rows self.now.tables → IfOk result (AreTableLines self.now.ontology rows (generation_of self.now.tables.book)) }
+    {
+        table_lines(alloc, &self.tables, &self.ontology, individuals)
     }
 
     /// The reply to a query whose names the ontology has.

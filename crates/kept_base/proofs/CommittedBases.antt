@@ -3,11 +3,13 @@ use Rattle.std.proofs.Common.{◌≡◌, ◌==◌, ◌≤◌, ◌+◌, ◌++◌,
 use Rattle.dl_base.specs.Completion.{IsLive}
 use Rattle.dl_base.specs.Numbers.{StandFor}
 use Rattle.dl_base.specs.Ontology.{IsTerminology, Terminology}
+use Rattle.dl_base.specs.Query.{Question}
 use Rattle.dl_base.specs.Rows.{AreRows}
 use Rattle.dl_base.specs.declared.concept.Role.{Role}
 use Rattle.dl_base.specs.declared.row.NamedChange.{NamedChange}
 use Rattle.dl_base.specs.declared.row.NamedRow.{NamedRow}
 use Rattle.dl_base.specs.declared.row.Row.{Row}
+use Rattle.gen_arena.specs.Store.{HandleStore, IsHandleStore, Names}
 use Rattle.assert_tables.specs.Rows.{AreRisingRows}
 use Rattle.completion.specs.Named.{IsNamedCompletion}
 use Rattle.witness_book.specs.Witnesses.{generation_of}
@@ -148,6 +150,10 @@ module _ (old new : BaseState) (k added removed : ℕ) (changes : List NamedChan
     changes = λ n these are.
         let s = sound.changes n these (others n these are (n == k) (sym (makes.sessions n) ∙ are)) in
         record { o = s.o; ontology_is = same_ontology ∙ s.ontology_is; named = s.named; few = s.few };
+    handles = subst IsHandleStore (sym makes.handles_stay) sound.handles;
+    queries = λ h q named.
+        let x = sound.queries h q (subst (λ (hs : HandleStore Question). Names hs h q) makes.handles_stay named) in
+        record { o = x.o; ontology_is = same_ontology ∙ x.ontology_is; known = x.known };
   }
     where
       others : (n : ℕ) (these : List NamedChange) → session_in new.sessions n ≡ Some these → (b : Bool) → (if b then None else session_in old.sessions n) ≡ Some these → session_in old.sessions n ≡ Some these
@@ -255,6 +261,7 @@ module _ (old new : BaseState) (k added removed : ℕ) (changes : List NamedChan
       used_is = (let e = ap (λ (st : StoreState). st.used) makes.store_stays in let used_is = used_next old makes.before makes.before_is s stands changes new.names new.rows makes.follows in omega (arith, e, used_is));
       count_is = (let e = ap (λ (st : StoreState). st.transactions) makes.store_stays in let count = count_next old makes.before makes.before_is s stands changes new.names new.rows makes.follows in omega (arith, e, count));
       sessions_are = λ n. makes.sessions n ∙ ap (λ (x : Option (List NamedChange)). if n == k then None else x) (stands.sessions_are n);
+      handles_are = makes.handles_stay ∙ stands.handles_are;
       generations_are = λ r. refl;
     }
 
@@ -265,4 +272,6 @@ other_store b store sound = record {
   none = sound.none;
   book = sound.book;
   changes = λ k these are. (let s = sound.changes k these are in record { o = s.o; ontology_is = s.ontology_is; named = s.named; few = s.few });
+  handles = sound.handles;
+  queries = sound.queries;
 }

@@ -2,6 +2,8 @@
 use Rattle.std.proofs.Common.{◌≡◌, ◌<◌, ◌≤◌, ◌++◌, ℕ, List, All, Some, length, slice_get, refl, sym, ◌∙◌, ap, subst, arith}
 use Rattle.completion.specs.Numbered.{IsRowOf}
 use Rattle.dl_base.specs.Ontology.{Terminology}
+use Rattle.dl_base.specs.Query.{Question}
+use Rattle.gen_arena.specs.Store.{ReservedStore}
 use Rattle.dl_base.specs.declared.row.NamedChange.{NamedChange}
 use Rattle.dl_base.specs.declared.row.Row.{Row}
 use Rattle.dl_base.proofs.PlaceLemmas.{place_stays}
@@ -90,6 +92,7 @@ module _ (c : Contents) (store : StoreState) (k : ℕ) (sound : IsSoundBase (bas
             };
             store_stays = refl;
             sessions = takes.sessions;
+            handles_stay = ap (λ (x : ReservedStore Question). x.store) takes.handles;
             steps_are = takes.steps_are;
           }
 

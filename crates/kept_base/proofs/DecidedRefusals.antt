@@ -79,6 +79,7 @@ put_stands k changes old new puts s stands =
       used_is = stands.used_is;
       count_is = stands.count_is;
       sessions_are = λ n. puts.session n ∙ ap (λ (x : Option (List NamedChange)). if n == k then changes else x) (stands.sessions_are n);
+      handles_are = stands.handles_are;
       generations_are = stands.generations_are;
     } in
     subst (λ (b : BaseState). StandsForState b (put_session k changes s)) (sym puts.rest) by
@@ -90,7 +91,7 @@ pub abort_steps : (k : ℕ) (old new : BaseState) → DecidesRefusal old (reques
 abort_steps k old new accepted puts s stands = (put_session k None s, StepsTo.done (accepted s stands) Does.abort, put_stands k None old new puts s stands)
 
 pub tidy_steps : (b : BaseState) → BaseSteps b (request.Plain command.Tidy) reply.Done b
-tidy_steps b s stands = (s, StepsTo.done ((others_accepted s).1) Does.tidy, stands)
+tidy_steps b s stands = (s, StepsTo.done ((others_accepted s).2) Does.tidy, stands)
 
 -- the command that appends a change
 pub appends_change : (k : ℕ) (change : NamedChange) → AppendsChange (command_of_change k change) k change.row

@@ -14,3 +14,4 @@ pub mod SteppedBases
 pub mod TakenBlocks
 pub mod ContentsLemmas
 pub mod HandedFaults
+pub mod PreparedQueries

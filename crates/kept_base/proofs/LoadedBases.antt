@@ -10,12 +10,16 @@ use Rattle.completion.specs.Numbered.{IsLiveRole, IsRowOf}
 use Rattle.dl_base.specs.Completion.{IsLive}
 use Rattle.dl_base.specs.Numbers.{NumbersRow, StandFor}
 use Rattle.dl_base.specs.Ontology.{Terminology}
+use Rattle.dl_base.specs.Query.{Question}
 use Rattle.dl_base.specs.declared.concept.Role.{Role}
 use Rattle.dl_base.specs.declared.row.NamedChange.{NamedChange}
 use Rattle.dl_base.specs.declared.row.NamedRow.{NamedRow}
 use Rattle.dl_base.specs.declared.row.NamedRow.TheVariants as named
 use Rattle.dl_base.specs.declared.row.Row.{Row}
 use Rattle.dl_base.specs.declared.row.Row.TheVariants as numbered
+use Rattle.gen_arena.specs.Store.{HandleStore, IsHandleStore, Names, Slot, empty_store}
+use Rattle.gen_arena.specs.declared.handle.Handle.{Handle}
+use Rattle.gen_arena.proofs.LawLemmas.{begins_as_store}
 use Rattle.base_store.specs.History.{Empty, History, Over, ontology_of}
 use Rattle.base_store.specs.Loaded.{HasNumbersOf, HasRows, IsLoadedOf}
 use Rattle.base_store.specs.Store.{StoreState}
@@ -24,7 +28,7 @@ use Rattle.kept_base.specs.Base.{BaseState, HasRowsOf, IsSoundBase, generation_b
 use Rattle.kept_base.specs.Opening.{AreRowsWithin, IsReasonedOf, IsReasonerOf, StandsFromLoad}
 use Rattle.base_reasoner.specs.Reasoned.{IsCompletedOf, Reasoned}
 use Rattle.kept_base.specs.Sessions.{session_in}
-use Rattle.base_engine.specs.State.{IsInitial, IsLiveIn, MachineState}
+use Rattle.base_engine.specs.State.{IsInitial, IsLiveIn, MachineState, handle_limit}
 use Rattle.base_engine.proofs.RowsOnce.{rows_once}
 use Rattle.base_engine.proofs.RowsThere.{rows_are, rows_of, rows_rise}
 
@@ -56,6 +60,10 @@ none_there (r ∷ rows) absent = absurd (absent r (0, omega arith, refl))
 pub some_not_none : {X : Type 0} (x : X) → None ≡ Some x → ⊥
 some_not_none x e = cc
 
+-- no handle of a store without slots names a query
+none_named : (h : Handle) (q : Question) → Names (empty_store handle_limit) h q → ⊥
+none_named h q named = (let no : None ≡ Some q = ap (λ (x : Slot Question). x.held) named in some_not_none q no)
+
 module _ (l : Loaded) (rows : List Row) (same : (r : Row) → Contains rows r ↔ Contains l.rows r) where
   -- the history with an ontology
   rows_stand : (o : Terminology) (es : List (List NamedChange)) → HasRows (Over o es) l.individuals l.rows → StandFor o l.individuals rows (rows_of (Over o es))
@@ -75,9 +83,10 @@ module _ (l : Loaded) (rows : List Row) (same : (r : Row) → Contains rows r �
       let one : p ≡ o = let e : Some p ≡ Some o = sym is.ontology ∙ has in cc in
       subst (λ (t : Terminology). All (IsRowOf t) rows) one (rows_placed p l.individuals rows (rows_of (Over p es)) (rows_stand p es is.rows))
 
-  module _ (store : StoreState) (found : Option Reasoned) (reasoned : IsReasonedOf l.ontology rows found) (sessions : List (Option (List NamedChange))) (closed : (k : ℕ) → session_in sessions k ≡ None) where
+  module _ (store : StoreState) (found : Option Reasoned) (reasoned : IsReasonedOf l.ontology rows found) (sessions : List (Option (List NamedChange))) (closed : (k : ℕ) → session_in sessions k ≡ None)
+      (handles : HandleStore Question) (unused : handles ≡ empty_store handle_limit) where
     abbrev pub made : BaseState
-    made = record { reasoned = found; names = l.individuals; rows = rows; store = store; sessions = sessions; steps = 0 }
+    made = record { reasoned = found; names = l.individuals; rows = rows; store = store; sessions = sessions; handles = handles; steps = 0 }
 
     -- the ontology is the history's
     ontology_made : (f : Option Reasoned) → IsReasonedOf l.ontology rows f → ontology_in f ≡ l.ontology
@@ -109,12 +118,14 @@ module _ (l : Loaded) (rows : List Row) (same : (r : Row) → Contains rows r �
         calls = (let calls = of.2.first.calls in omega (arith, calls));
       });
       changes = λ k changes are. absurd (some_not_none changes (sym (closed k) ∙ are));
+      handles = subst IsHandleStore (sym unused) (begins_as_store handle_limit);
+      queries = λ h q named. absurd (none_named h q (subst (λ (hs : HandleStore Question). Names hs h q) unused named));
     }
 
     -- ---- the state that the machine begins with
 
     abbrev first : History → MachineState
-    first h = record { history = h; session = λ k. None; generation = generation_by found }
+    first h = record { history = h; session = λ k. None; handles = empty_store handle_limit; generation = generation_by found }
 
     -- generations, with an ontology
     module _ (o : Terminology) (es : List (List NamedChange)) (is : IsLoadedOf (Over o es) l) (x : Reasoned) (of : IsReasonerOf o rows x) where
@@ -140,6 +151,7 @@ module _ (l : Loaded) (rows : List Row) (same : (r : Row) → Contains rows r �
     initial_empty is None e of = record {
       history = refl;
       closed = λ k. refl;
+      none_given = refl;
       live = λ r live. absurd (some_not_none live.o live.base.ontology_is);
       others = λ r not. ap (λ (y : Option Reasoned). generation_by y r) e;
     }
@@ -153,6 +165,7 @@ module _ (l : Loaded) (rows : List Row) (same : (r : Row) → Contains rows r �
         record {
           history = refl;
           closed = λ k. refl;
+          none_given = refl;
           live = λ r live. ap (λ (y : Option Reasoned). generation_by y r) e ∙ by.first.first r (live_number o es is x by r live);
           others = λ r not. ap (λ (y : Option Reasoned). generation_by y r) e ∙ by.first.others r (λ live. not (number_live o es is x by r live));
         }
@@ -183,6 +196,7 @@ module _ (l : Loaded) (rows : List Row) (same : (r : Row) → Contains rows r �
         used_is = used_is;
         count_is = count_is;
         sessions_are = closed;
+        handles_are = unused;
         generations_are = λ r. refl;
       },
     )

@@ -104,7 +104,7 @@ module _ (old new : Option Disk) (store : StoreState) (l : Loaded) (b : BaseStat
       let initial : IsInitial s.history t.0 = subst (λ (h : History). IsInitial h t.0) is t.1 in
       let count : l.transactions ≡ transaction_count s.history = x.3.loaded.transactions ∙ ap transaction_count is in (
         t.0,
-        subst (λ (n : ℕ). StepsTo s (request.Plain command.Reopen) (reply.Reopened n) t.0) (sym count) (StepsTo.done (others_accepted s).2 (Does.reopen initial)),
+        subst (λ (n : ℕ). StepsTo s (request.Plain command.Reopen) (reply.Reopened n) t.0) (sym count) (StepsTo.done (others_accepted s).3 (Does.reopen initial)),
         t.2,
         λ e e_told. subst (λ (y : Disk). HoldsAtRest y t.0.history) (some_same (sym x.1 ∙ e_told)) (at_rest_with d x.0 x.3 t.0.history (is ∙ sym initial.history)),
       )

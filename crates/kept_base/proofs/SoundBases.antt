@@ -51,6 +51,8 @@ sound_sessions old sessions steps more sound all = record {
   none = sound.none;
   book = λ r e. (let set = sound.book r e in record { roles = set.roles; calls = (let calls = set.calls in omega (arith, calls, more)) });
   changes = λ k changes are. (let s = all k changes are in record { o = s.o; ontology_is = s.ontology_is; named = s.named; few = s.few });
+  handles = sound.handles;
+  queries = sound.queries;
 }
 
 -- one session is put

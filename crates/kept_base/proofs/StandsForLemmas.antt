@@ -79,6 +79,7 @@ alike b s u a c = record {
     used_is = sym a.used_is ∙ c.used_is;
   };
   sessions = λ i k. (sym (a.sessions_are k) ∙ c.sessions_are k) i;
+  handles = sym a.handles_are ∙ c.handles_are;
   generations = λ i r. (sym (a.generations_are r) ∙ c.generations_are r) i;
 }
 
@@ -90,6 +91,7 @@ stands b s u a x = record {
   used_is = a.used_is ∙ x.histories.used_is;
   count_is = a.count_is ∙ x.histories.count_is;
   sessions_are = λ k. a.sessions_are k ∙ (λ i. x.sessions i k);
+  handles_are = a.handles_are ∙ x.handles;
   generations_are = λ r. a.generations_are r ∙ (λ i. x.generations i r);
 }
 

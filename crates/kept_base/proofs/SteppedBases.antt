@@ -4,7 +4,6 @@ use Rattle.std.specs.Option.{ForSome}
 use Rattle.host_io.specs.Disk.{Disk}
 use Rattle.base_store.specs.History.{History}
 use Rattle.reply_text.specs.declared.reply.Refusal.{Refusal}
-use Rattle.reply_text.specs.declared.reply.Refusal.TheVariants as refusal
 use Rattle.reply_text.specs.declared.reply.Reply.{Reply}
 use Rattle.reply_text.specs.declared.reply.Reply.TheVariants as reply
 use Rattle.script_reader.specs.declared.command.Command.TheVariants as command
@@ -22,10 +21,7 @@ use Rattle.base_engine.proofs.RunLemmas.{others_leave_history}
 -- ---- lines that are refused by themselves
 
 pub bad_steps : (b : BaseState) (e : Refusal) → BaseSteps b (request.Bad e) (reply.Error e) b
-bad_steps b e = refusal_steps b (request.Bad e) e (λ s stands. (line_refusals s).0 e)
-
-pub unbuilt_steps : (b : BaseState) → BaseSteps b (request.Plain command.Unbuilt) (reply.Error refusal.Unbuilt) b
-unbuilt_steps b = refusal_steps b (request.Plain command.Unbuilt) refusal.Unbuilt (λ s stands. (line_refusals s).1)
+bad_steps b e = refusal_steps b (request.Bad e) e (λ s stands. line_refusals s e)
 
 -- ---- the area is left alone
 

@@ -99,6 +99,8 @@ module _ (b : BaseState) (x : Reasoned) (can : CanTake b x.ontology) (of : IsRea
     none = λ e. refl;
     book = λ y e. subst (λ (z : Reasoned). IsBookSet (b.steps + 1) z) (some_same e) book_first;
     changes = λ k changes are. (let was = sound.changes k changes are in absurd (some_not_none was.o (sym (ap ontology_in can.none) ∙ was.ontology_is)));
+    handles = sound.handles;
+    queries = λ h q named. (let was = sound.queries h q named in absurd (some_not_none was.o (sym (ap ontology_in can.none) ∙ was.ontology_is)));
   }
 
   module _ (s : MachineState) (stands : StandsForState b s) where
@@ -132,6 +134,7 @@ module _ (b : BaseState) (x : Reasoned) (can : CanTake b x.ontology) (of : IsRea
       used_is = sym used_next;
       count_is = stands.count_is ∙ (ap transaction_count empty ∙ sym (ap transaction_count next_is));
       sessions_are = stands.sessions_are;
+      handles_are = stands.handles_are;
       generations_are = λ r. of.first.others r (none_live x.ontology r);
     }
 

@@ -98,6 +98,7 @@ pub record TakesChanges (old : Contents) (k : ℕ) (made : MadeChanges) (changes
   pub after_is : new.reasoner ≡ Some after
   pub renewed : (before : Reasoned) → old.reasoner ≡ Some before → IsRenewed old.rows before after
   pub sessions : PutsSession k None old.sessions new.sessions
+  pub handles : new.handles ≡ old.handles
   pub counts : CountsDifference made.difference added removed
   pub steps_are : new.steps ≡ old.steps + 1
 
@@ -131,6 +132,7 @@ pub record MakesTransaction (old : BaseState) (k : ℕ) (changes : List NamedCha
   pub counts : CountsRows old.rows new.rows added removed
   pub store_stays : new.store ≡ old.store
   pub sessions : PutsSession k None old.sessions new.sessions
+  pub handles_stay : new.handles ≡ old.handles
   pub steps_are : new.steps ≡ old.steps + 1
 
 -- what making the changes of a session comes to

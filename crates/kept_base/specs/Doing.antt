@@ -1,10 +1,15 @@
 -- What the calls of a base do to it.
 use Rattle.std.specs.Prelude.{◌≡◌, ◌+◌, ◌<◌, ℕ, List, length, true, false, Bool, Option, Some, MatchOption}
 use Rattle.dl_base.specs.Ontology.{Terminology}
+use Rattle.dl_base.specs.Query.{Question}
 use Rattle.dl_base.specs.declared.row.NamedChange.{NamedChange}
 use Rattle.dl_base.specs.declared.row.NamedRow.{NamedRow}
+use Rattle.gen_arena.specs.Store.{HandleStore}
+use Rattle.gen_arena.specs.declared.handle.Gone.{Gone}
+use Rattle.gen_arena.specs.declared.handle.Gone.TheVariants as gone
 use Rattle.base_store.specs.Legal.{IsNamedBy}
 use Rattle.reply_text.specs.declared.reply.Refusal.{Refusal}
+use Rattle.reply_text.specs.declared.reply.Refusal.TheVariants as refusal
 use Rattle.reply_text.specs.declared.reply.Reply.{Reply}
 use Rattle.script_reader.specs.declared.command.Command.{Command}
 use Rattle.script_reader.specs.declared.command.Command.TheVariants as command
@@ -27,6 +32,15 @@ DecidesRefusal b q found = (s : MachineState) → StandsForState b s → MatchOp
 pub record PutsInBase (k : ℕ) (changes : Option (List NamedChange)) (old new : BaseState) : Type 0 where
   pub rest : new ≡ record old { sessions = new.sessions; steps = old.steps + 1 }
   pub session : PutsSession k changes old.sessions new.sessions
+
+-- the prepared queries become these, and all else stays; one command more changed the base
+abbrev pub ChangesHandles : HandleStore Question → BaseState → BaseState → Type 0
+ChangesHandles handles old new = new ≡ record old { handles = handles; steps = old.steps + 1 }
+
+-- the refusal of a handle that names nothing
+abbrev pub refusal_of_gone : Gone → Refusal
+refusal_of_gone gone.Never = refusal.NeverGiven
+refusal_of_gone (gone.Dropped last) = refusal.Dropped last
 
 -- the command that appends the change to the session
 abbrev pub command_of_change : ℕ → NamedChange → Command

@@ -15,8 +15,8 @@ use std::marker::Model;
 
 /// A base that does requests, over the first area of a host.
 ///
-/// Contracts see its ontology with the completed tables, its rows, its store's numbers, its sessions and how many commands changed it;
-/// `StandsForState` says which states of the machine it stands for.
+/// Contracts see its ontology with the completed tables, its rows, its store's numbers, its sessions, its prepared queries and how many
+/// commands changed it; `StandsForState` says which states of the machine it stands for.
 #[derive(Drop)]
 pub struct Base {
     pub(crate) contents: Contents,

@@ -14,7 +14,8 @@ use crate::sessions::Sessions;
 use assert_tables::Assertions;
 use base_reasoner::Reasoner;
 use base_store::Store;
-use dl_base::{Changes, NameBook, NamedChange, Ontology};
+use dl_base::{Changes, NameBook, NamedChange, Ontology, Query};
+use gen_arena::Arena;
 use horn_closure::Steps;
 use reply_text::Refusal;
 use row_changes::{Made, make_changes, take_newcomers};
@@ -33,13 +34,14 @@ const ROWS: u64 = 1_000_000;
 const INDIVIDUALS: u64 = 65_536;
 
 /// What a base holds in memory: what it derives by its ontology, where it has one; its individuals and its rows by number; its
-/// sessions; and how many commands changed it since it was loaded.
+/// sessions; its prepared queries; and how many commands changed it since it was loaded.
 #[derive(Drop)]
 pub(crate) struct Contents {
     pub(crate) reasoner: Option<Reasoner>,
     pub(crate) individuals: NameBook,
     pub(crate) rows: Assertions,
     pub(crate) sessions: Sessions,
+    pub(crate) handles: Arena<Query>,
     pub(crate) steps: u32,
 }
 
@@ -128,6 +130,7 @@ impl Contents {
             individuals: NameBook::new(alloc),
             rows: Assertions::new(alloc),
             sessions: self.sessions,
+            handles: self.handles,
             steps: self.steps + 1,
         }
     }

@@ -9,6 +9,7 @@ mod commands;
 mod commits;
 mod contents;
 mod engine_base;
+mod handles;
 pub mod laws;
 mod opening;
 mod questions;

@@ -26,12 +26,16 @@ use base_engine::EndFault;
 use base_reasoner::Reasoner;
 use base_store::{Loaded, Store};
 use dl_base::{Ontology, Row};
+use gen_arena::Arena;
 use horn_closure::Steps;
 use host_io::Host;
 use reply_text::Reply;
 use std::alloc::{AllocError, Global};
 use std::marker::Brand;
 use std::sync::ledger::{Blank, Ledger};
+
+/// The most slots of prepared queries.
+const HANDLES: u32 = 256;
 
 impl Base {
     /// Loads the base that the first area keeps. A fresh area keeps the one without an ontology, and isn't fresh behind the call.
@@ -65,7 +69,8 @@ impl Base {
         Ok(base)
     }
 
-    /// `reopen`: gives the base up and loads it again. Sessions are closed, and generations are counted afresh.
+    /// `reopen`: gives the base up and loads it again. Sessions are closed, prepared queries are forgotten, and generations are
+    /// counted afresh.
     pub fn reopen<H: Host>(self, alloc: Global, host: &mut H) -> Result<(Base, Reply), EndFault>
         requires ready { HasKeptState (StandsForState self) (H.disk host.old) }
         ensures steps { (s : MachineState) → StandsForState self s → ForSome (H.disk host.old) (λ d. HoldsAtRest d s.history → IfOk result (λ done.
@@ -118,6 +123,7 @@ impl Base {
             individuals,
             rows,
             sessions,
+            handles: Arena::new(alloc, HANDLES),
             steps: 0,
         };
         let base = Base { contents, store };

@@ -24,6 +24,21 @@ impl Base {
         }
     }
 
+    /// `tables`: the lines of the completed tables, each witness with its generation.
+    pub fn tables(&self, alloc: Global) -> Result<Reply, AllocError>
+        ensures step { IfOk result (λ reply. BaseSteps self.now (request.Plain command.Tables) reply self.now) }
+        ensures completed { HasCompletedTables self.now }
+    {
+        self.tell();
+        match &self.contents.reasoner {
+            Some(reasoner) => {
+                let lines = reasoner.lines(alloc, &self.contents.individuals)?;
+                Ok(Reply::Table(lines))
+            }
+            None => Ok(Reply::Error(Refusal::NoOntology)),
+        }
+    }
+
     /// `check`: the first clash, or that there is none.
     pub fn check(&self, alloc: Global) -> Result<Reply, AllocError>
         ensures step { IfOk result (λ reply. BaseSteps self.now (request.Plain command.Check) reply self.now) }

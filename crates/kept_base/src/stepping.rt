@@ -15,7 +15,7 @@ use crate::base::Base;
 use base_engine::{CommitFault, EndFault};
 use horn_closure::Steps;
 use host_io::Host;
-use reply_text::{Refusal, Reply};
+use reply_text::Reply;
 use script_reader::{Command, Request};
 use std::alloc::{AllocError, Global};
 use std::sync::ledger::Ledger;
@@ -131,9 +131,12 @@ impl Base {
             Command::Del(session, row) => self.del(alloc, session, row),
             Command::Abort(session) => Ok(self.abort(session)),
             Command::Ask(query) => self.ask(alloc, &query),
+            Command::Prepare(query) => self.prepare(alloc, query),
+            Command::Run(handle) => self.run_query(alloc, handle),
+            Command::Drop(handle) => Ok(self.drop_query(handle)),
             Command::Check => self.check(alloc),
+            Command::Tables => self.tables(alloc),
             Command::Tidy => Ok(self.tidy()),
-            Command::Unbuilt => Ok(Reply::Error(Refusal::Unbuilt)),
             Command::Blank | Command::Ontology | Command::Commit(_) | Command::Reopen => {
                 unreachable!()
             }

@@ -58,10 +58,10 @@ gives_command =
     gives_or a_command _ (gives_or (with_row (codes "add") tree.Add) _ (gives_row (codes "add") tree.Add (λ k r le _. le)) (gives_or (with_session (codes "abort") tree.Abort) _ (gives_session (codes "abort") tree.Abort (λ k le _. le)) (gives_form _ tree.Ask (λ q _. tt))))
     (gives_or (with_session (codes "begin") tree.Begin) _ (gives_session (codes "begin") tree.Begin (λ k le _. le))
     (gives_or c_command _ (gives_or (with_session (codes "commit") tree.Commit) _ (gives_session (codes "commit") tree.Commit (λ k le _. le)) (gives_form _ (λ _. tree.Check) (λ v _. tt)))
-    (gives_or d_command _ (gives_or (with_row (codes "del") tree.Del) _ (gives_row (codes "del") tree.Del (λ k r le _. le)) (gives_form _ (λ _. tree.Drop) (λ v _. tt)))
+    (gives_or d_command _ (gives_or (with_row (codes "del") tree.Del) _ (gives_row (codes "del") tree.Del (λ k r le _. le)) (gives_form _ tree.Drop (λ v _. tt)))
     (gives_or (alone (codes "ontology") tree.Ontology) _ (gives_form _ (λ _. tree.Ontology) (λ v no. no))
     (gives_or (with_query (codes "prepare") tree.Prepare) _ (gives_form _ tree.Prepare (λ q _. tt))
-    (gives_or r_command t_command (gives_or (with_handle (codes "run") tree.Run) _ (gives_form _ (λ _. tree.Run) (λ v _. tt)) (gives_form _ (λ _. tree.Reopen) (λ v _. tt)))
+    (gives_or r_command t_command (gives_or (with_handle (codes "run") tree.Run) _ (gives_form _ tree.Run (λ v _. tt)) (gives_form _ (λ _. tree.Reopen) (λ v _. tt)))
     (gives_or (alone (codes "tables") tree.Tables) _ (gives_form _ (λ _. tree.Tables) (λ v _. tt)) (gives_form _ (λ _. tree.Tidy) (λ v _. tt)))))))))
 
 gives_line : Gives script_line
@@ -80,8 +80,8 @@ blank_is (tree.Commit k) e = absurd cc
 blank_is (tree.Abort k) e = absurd cc
 blank_is (tree.Ask q) e = absurd cc
 blank_is (tree.Prepare q) e = absurd cc
-blank_is tree.Run e = absurd cc
-blank_is tree.Drop e = absurd cc
+blank_is (tree.Run h) e = absurd cc
+blank_is (tree.Drop h) e = absurd cc
 blank_is tree.Check e = absurd cc
 blank_is tree.Tables e = absurd cc
 blank_is tree.Tidy e = absurd cc
@@ -97,8 +97,8 @@ ontology_is (tree.Commit k) e = absurd cc
 ontology_is (tree.Abort k) e = absurd cc
 ontology_is (tree.Ask q) e = absurd cc
 ontology_is (tree.Prepare q) e = absurd cc
-ontology_is tree.Run e = absurd cc
-ontology_is tree.Drop e = absurd cc
+ontology_is (tree.Run h) e = absurd cc
+ontology_is (tree.Drop h) e = absurd cc
 ontology_is tree.Check e = absurd cc
 ontology_is tree.Tables e = absurd cc
 ontology_is tree.Tidy e = absurd cc
@@ -118,10 +118,13 @@ says_of text (command.Del k r) s asks reads = says_alone text (command.Del k r) 
 says_of text (command.Commit k) s asks reads = says_alone text (command.Commit k) s asks reads tt
 says_of text (command.Abort k) s asks reads = says_alone text (command.Abort k) s asks reads tt
 says_of text (command.Ask q) s asks reads = says_alone text (command.Ask q) s asks reads tt
+says_of text (command.Prepare q) s asks reads = says_alone text (command.Prepare q) s asks reads tt
+says_of text (command.Run h) s asks reads = says_alone text (command.Run h) s asks reads tt
+says_of text (command.Drop h) s asks reads = says_alone text (command.Drop h) s asks reads tt
 says_of text command.Check s asks reads = says_alone text command.Check s asks reads tt
+says_of text command.Tables s asks reads = says_alone text command.Tables s asks reads tt
 says_of text command.Tidy s asks reads = says_alone text command.Tidy s asks reads tt
 says_of text command.Reopen s asks reads = says_alone text command.Reopen s asks reads tt
-says_of text command.Unbuilt s asks reads = says_alone text command.Unbuilt s asks reads tt
 
 -- ---- why a line is refused
 

@@ -17,7 +17,7 @@ use Rattle.script_reader.specs.declared.request.Request.{Request}
 use Rattle.base_engine.specs.Calls.{HoldsAtRest, DiskKeeps, StaysTold, StepLeaves, TouchesArea}
 use Rattle.base_engine.specs.State.{MachineState}
 use Rattle.base_engine.specs.Steps.{StepsTo, AreReplies}
-use Rattle.base_engine.proofs.RunLemmas.{steps_go_on, others_leave_state}
+use Rattle.base_engine.proofs.RunLemmas.{steps_go_on, other_replies_leave_history}
 use Rattle.run_loop.specs.Printing.{PrintsWhole, PrintsPart}
 use Rattle.run_loop.specs.Serving.{IsProperFront, Opening, ShowsReplies, Stopped, HasLeft, Serves, Ended, texts}
 use Rattle.run_loop.specs.declared.fault.Fault.{Fault}
@@ -36,14 +36,15 @@ text_some reply.Done e = cc
 text_some (reply.Committed number added removed) e = cc
 text_some (reply.Loaded inclusions) e = cc
 text_some (reply.Reopened transactions) e = cc
+text_some (reply.Prepared h) e = cc
 text_some (reply.Answers []) e = cc
 text_some (reply.Answers (k ∷ ks)) e = cc
 text_some reply.Consistent e = cc
 text_some (reply.Inconsistent c) e = cc
+text_some (reply.Table []) e = cc
+text_some (reply.Table ([] ∷ lines)) e = cc
+text_some (reply.Table ((c ∷ cs) ∷ lines)) e = cc
 text_some (reply.Error x) e = cc
-
-pub history_stays : (s : MachineState) (q : Request) (r : Reply) (t : MachineState) → StepsTo s q r t → (IsAcknowledgement r → ⊥) → t.history ≡ s.history
-history_stays s q r t step silent = ap (λ (z : MachineState). z.history) (others_leave_state s t q r step silent)
 
 -- ---- what was left
 
@@ -234,7 +235,7 @@ module _ {H : Type 0} (disk : H → Option Disk) (printed : H → Option (List �
       rest = q ∷ [];
       parts = refl;
       state = s;
-      replied = record { shows = pending.shows; d = pending.d; told = pending.told; kept = subst (HoldsAtRest pending.d) (history_stays s q r t pending.step silent) pending.kept; other = pending.other };
+      replied = record { shows = pending.shows; d = pending.d; told = pending.told; kept = subst (HoldsAtRest pending.d) (other_replies_leave_history s t q r pending.step silent) pending.kept; other = pending.other };
     };
     moments = pending.moments;
   }

@@ -31,7 +31,12 @@ fn is_acknowledgement(reply: &Reply) -> bool
     match reply {
         Reply::Done | Reply::Committed { .. } | Reply::Loaded { .. } | Reply::Reopened { .. } =>
             true,
-        Reply::Answers(_) | Reply::Consistent | Reply::Inconsistent(_) | Reply::Error(_) => false,
+        Reply::Prepared(_)
+        | Reply::Answers(_)
+        | Reply::Consistent
+        | Reply::Inconsistent(_)
+        | Reply::Table(_)
+        | Reply::Error(_) => false,
     }
 }
 

@@ -12,9 +12,9 @@ reasoned-requires c =
 pub invariant_of-base : goal.invariant_of-base
 invariant_of-base c =
     let same = subst (λ (xs : List Row). (r : Row) → Contains c.in_ok-rows.rows r ↔ Contains xs r) c.items.ensures c.in_ok-rows.ensures in
-    loaded_sound c.args.loaded c.in_ok-rows.rows same c.args.store c.in_ok-reasoner.reasoner c.in_ok-reasoner.ensures c.in_ok-sessions.sessions c.in_ok-sessions.ensures c.requires.numbers
+    loaded_sound c.args.loaded c.in_ok-rows.rows same c.args.store c.in_ok-reasoner.reasoner c.in_ok-reasoner.ensures c.in_ok-sessions.sessions c.in_ok-sessions.ensures c.new-2.result.store c.new-2.ensures c.requires.numbers
 
 pub returns-clause-stands : goal.returns-clause-stands
 returns-clause-stands c =
     let same = subst (λ (xs : List Row). (r : Row) → Contains c.in_ok-rows.rows r ↔ Contains xs r) c.items.ensures c.in_ok-rows.ensures in
-    loaded_stands c.args.loaded c.in_ok-rows.rows same c.args.store c.in_ok-reasoner.reasoner c.in_ok-reasoner.ensures c.in_ok-sessions.sessions c.in_ok-sessions.ensures
+    loaded_stands c.args.loaded c.in_ok-rows.rows same c.args.store c.in_ok-reasoner.reasoner c.in_ok-reasoner.ensures c.in_ok-sessions.sessions c.in_ok-sessions.ensures c.new-2.result.store c.new-2.ensures
