@@ -127,9 +127,17 @@ add 0 A a
 commit 0
 abort 0
 check
+prepare q(?x) :- A(?x)
+run 0.1
+drop 0.1
+tables
 tidy
 reopen
 => error 3
+error 3
+error 3
+error 3
+error 3
 error 3
 error 3
 error 3
@@ -202,22 +210,196 @@ end
 ask q(?x) :- A(?x), A(?x), A(?x), A(?x), A(?x), A(?x), A(?x), A(?x), A(?x), A(?x), A(?x), A(?x), A(?x), A(?x), A(?x), A(?x), A(?x), A(?x), A(?x), A(?x), A(?x), A(?x), A(?x), A(?x)
 ask q(?x) :- A(?x), A(?x), A(?x), A(?x), A(?x), A(?x), A(?x), A(?x), A(?x), A(?x), A(?x), A(?x), A(?x), A(?x), A(?x), A(?x), A(?x), A(?x), A(?x), A(?x), A(?x), A(?x), A(?x), A(?x), A(?x)
 ask q(?y) :- A(?x)
-prepare q(?x) :- A(?x)
-run 0.1
-drop 0.1
-tables
-run 4294967296.1
 prepare q(?y) :- A(?x)
+prepare q(?x) :- A(?x), Zed(?x)
+prepare q(?x) :- t(?x,?x)
+run 4294967296.1
+run 0.18446744073709551616
 => ok ontology 1
 end 0
 error 16
 error 17 ?y
-error 99
-error 99
-error 99
-error 99
-error 1 14
 error 17 ?y
+error 6 Zed
+error 7 t
+error 1 14
+error 1 26
+----
+"
+}
+
+// Prepared queries: handles that are given, dropped and never given, and queries over the rows as they are then.
+pub(crate) fn handles() -> &'static str {
+    "ontology
+SubClassOf(A Some(r))
+end
+prepare q(?x) :- A(?x)
+drop 0.1
+run 0.1
+prepare q(?x) :- A(?x)
+run 0.1
+run 7.1
+run 0.3
+run 0.2
+=> ok ontology 1
+prepared 0.1
+ok
+error 14 1
+prepared 0.2
+error 14 2
+error 13
+error 13
+end 0
+----
+ontology
+SubClassOf(A Some(r))
+end
+begin 0
+prepare q(?x) :- A(?x)
+reopen
+commit 0
+run 0.1
+=> ok ontology 1
+ok
+prepared 0.1
+ok reopen 0
+error 8
+error 13
+----
+ontology
+SubClassOf(A Some(r))
+Disjoint(A B)
+end
+prepare q(?x) :- r(?x,?y)
+prepare q(?x) :- A(?x)
+prepare q() :- B(?x)
+begin 0
+add 0 A a
+run 0.1
+commit 0
+run 0.1
+drop 1.1
+drop 0.1
+prepare q(?y) :- A(?y)
+prepare q() :- A(b)
+run 0.2
+run 1.2
+run 2.1
+begin 0
+add 0 B a
+commit 0
+run 2.1
+drop 3.1
+drop 2.0
+drop 2.1
+drop 2.1
+=> ok ontology 2
+prepared 0.1
+prepared 1.1
+prepared 2.1
+ok
+ok
+end 0
+ok 1 1 0
+answer a
+end 1
+ok
+ok
+prepared 0.2
+prepared 1.2
+answer a
+end 1
+end 0
+end 0
+ok
+ok
+ok 2 1 0
+inconsistent 2 a
+error 13
+error 13
+ok
+error 14 1
+----
+"
+}
+
+// Completed tables: witnesses that come and go with their generations, and the order of the lines.
+pub(crate) fn tables() -> &'static str {
+    "ontology
+SubClassOf(A Some(r))
+end
+tables
+begin 0
+add 0 A a
+commit 0
+tables
+begin 1
+add 1 r a b
+commit 1
+tables
+begin 0
+del 0 r a b
+commit 0
+tables
+tidy
+reopen
+tables
+=> ok ontology 1
+end 0
+ok
+ok
+ok 1 1 0
+witness r 1
+concept A a
+role r a *r
+end 3
+ok
+ok
+ok 2 1 0
+concept A a
+role r a b
+end 2
+ok
+ok
+ok 3 0 1
+witness r 2
+concept A a
+role r a *r
+end 3
+ok
+ok reopen 3
+witness r 1
+concept A a
+role r a *r
+end 3
+----
+ontology
+SubClassOf(A Some(Inv(r)))
+SubClassOf(A Some(r))
+Range(r B)
+end
+begin 0
+add 0 B b
+add 0 A a
+add 0 B <b>
+commit 0
+tables
+=> ok ontology 3
+ok
+ok
+ok
+ok
+ok 1 3 0
+witness r 1
+witness Inv(r) 1
+concept A a
+concept B <b>
+concept B a
+concept B b
+concept B *r
+role r a *r
+role r *Inv(r) a
+end 9
 ----
 "
 }

@@ -1,6 +1,6 @@
 // Command lines, and scripts with their replies.
 use super::*;
-use crate::scripts::{clashes, refusals, sessions, university};
+use crate::scripts::{clashes, handles, refusals, sessions, tables, university};
 use host_io::{Areas, Bytes, Calls, EvenHost, Failed, Host, MemHost, MemSource, Source};
 use std::alloc::{AllocError, Global};
 use std::process::Abort;
@@ -68,6 +68,8 @@ fn scripts_have_their_replies(rt: HostRuntime) -> Result<(), Fail> {
     assert_eq!(rt; try_all(&rt, alloc, sessions())?, 6);
     assert_eq!(rt; try_all(&rt, alloc, refusals())?, 6);
     assert_eq!(rt; try_all(&rt, alloc, clashes())?, 2);
+    assert_eq!(rt; try_all(&rt, alloc, handles())?, 3);
+    assert_eq!(rt; try_all(&rt, alloc, tables())?, 2);
     assert_eq!(rt; try_all(&rt, alloc, university())?, 1);
     Ok(())
 }
@@ -268,6 +270,41 @@ fn changes(alloc: Global, count: u32, behind: &str) -> Result<Vec<u8>, Fail> {
     Ok(text)
 }
 
+// A query that is prepared so many times.
+fn prepared(alloc: Global, count: u32) -> Result<Vec<u8>, Fail> {
+    let mut text = b"ontology\nClass(A)\nend\n".to_vec(alloc)?;
+    for _ in 0..count {
+        text.extend_from_slice(b"prepare q(?x) :- A(?x)\n")?;
+    }
+    Ok(text)
+}
+
+// Whatever is in A has a successor by each of 256 roles, and a is in A: all roles are live.
+fn all_live(alloc: Global) -> Result<Vec<u8>, Fail> {
+    let mut text = b"ontology\n".to_vec(alloc)?;
+    for i in 0..256u32 {
+        text.extend_from_slice(format!(in alloc; "SubClassOf(A Some(r{i}))\n")?.as_bytes())?;
+    }
+    text.extend_from_slice(b"end\nbegin 0\nadd 0 A a\ncommit 0\ntables\n")?;
+    Ok(text)
+}
+
+// Eight transactions that add 65,536 individuals, and what comes behind them.
+fn crowd(alloc: Global, behind: &str) -> Result<Vec<u8>, Fail> {
+    let mut text = b"ontology\nClass(A)\nend\n".to_vec(alloc)?;
+    for i in 0..65_536u32 {
+        if i % 8_192 == 0 {
+            text.extend_from_slice(b"begin 0\n")?;
+        }
+        text.extend_from_slice(format!(in alloc; "add 0 A x{i}\n")?.as_bytes())?;
+        if i % 8_192 == 8_191 {
+            text.extend_from_slice(b"commit 0\n")?;
+        }
+    }
+    text.extend_from_slice(behind.as_bytes())?;
+    Ok(text)
+}
+
 // How the replies to a script end.
 fn ends(rt: &impl Abort, alloc: Global, script: &[u8], tail: &[u8]) -> Result<(), Fail> {
     let mut host = EvenHost::new(alloc);
@@ -308,6 +345,24 @@ fn lines_transactions_and_inputs_have_their_limits(rt: HostRuntime) -> Result<()
         alloc,
         &changes(alloc, 10_001, "commit 0\n")?,
         b"\nerror 10\nok 1 10000 0\n",
+    )?;
+    ends(
+        &rt,
+        alloc,
+        &all_live(alloc)?,
+        b"\nrole r99 a *r99\nend 513\n",
+    )?;
+    ends(
+        &rt,
+        alloc,
+        &prepared(alloc, 257)?,
+        b"\nprepared 255.1\nerror 15\n",
+    )?;
+    ends(
+        &rt,
+        alloc,
+        &crowd(alloc, "begin 0\nadd 0 A y\ncommit 0\ndel 0 A y\ncommit 0\n")?,
+        b"\nok 8 8192 0\nok\nok\nerror 11\nok\nok 9 0 0\n",
     )?;
     ends(&rt, alloc, &check_line(alloc, 4_091)?, b"\nconsistent\n")?;
     ends(&rt, alloc, &check_line(alloc, 4_092)?, b"\nerror 2\n")?;
