@@ -51,7 +51,7 @@ fn refused() -> &'static str {
      syntax 5:begi\0\n\
      syntax 14:run 4294967296.1\n\
      syntax 26:run 0.18446744073709551616\n\
-     syntax 6:drop 01.1\n\
+     syntax 7:drop 01.1\n\
      syntax 7:drop 1\n\
      syntax 10:prepare q\n\
      unsafe 0:prepare q(?y) :- A(x)\n\
