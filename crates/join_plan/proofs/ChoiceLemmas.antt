@@ -58,18 +58,6 @@ no_dearer_trans (cost.Scan k) (cost.Scan n) (cost.Scan m) h i = omega arith
 
 -- ---- the cheapest of the first candidates
 
-pub cheapest_first : (left : List Candidate) (known : List Bool) (c : Candidate) (o : Offer) → slice_get left 0 ≡ Some c → IsOfferFor known c o
-    → IsCheapest left 1 known (record { index = 0; offer = o })
-cheapest_first left known c o at is = record {
-  candidate = c;
-  there = at;
-  is = is;
-  least = λ k d below there.
-      let first : k ≡ 0 = omega arith in
-      let same : d ≡ c = some_same (sym (rw first at there) ∙ at) in
-      rw same (record { offer = o; is = is; dear = no_dearer_itself o.cost });
-}
-
 module _ (left : List Candidate) (known : List Bool) (i : ℕ) (c : Candidate) (o : Offer) (at : slice_get left i ≡ Some c) (is : IsOfferFor known c o) where
   one_more : (k : Cost) → ((j : ℕ) (d : Candidate) → j < i → slice_get left j ≡ Some d → HasDearer known k d) → IsNoDearer k o.cost
       → (j : ℕ) (d : Candidate) → j < i + 1 → slice_get left j ≡ Some d → HasDearer known k d

@@ -2,10 +2,10 @@
 use Rattle.std.proofs.Common.{◌≡◌, ◌↔◌, ℕ, suc, ◌+◌, ◌<◌, ◌≤◌, ◌⊎◌, inl, inr, Bool, List, [], ◌∷◌, ◌++◌, length, map, take, drop, get_or, Some, slice_get, All, Contains, IsPermutation, refl, sym, ◌∙◌, ap, subst, arith}
 use Rattle.std.specs.List.{range_with_len, remove}
 use Rattle.std.proofs.Math.Seq.{take-append_seam}
-use Rattle.std.proofs.lemmas.List.{append-nil, map-append, take-map, drop-map, take-append-le, take_all, length-map, get_or-map}
+use Rattle.std.proofs.lemmas.List.{map-append, take-map, drop-map, take-append-le, take_all, length-map, get_or-map}
 use Rattle.std.proofs.lemmas.List.Elements.{All-append, All-contains, All-drop, All-take, Contains-append_cases, Contains-append_left, Contains-push, Contains-push_cases}
 use Rattle.std.proofs.lemmas.List.FromFn.{get_or-range_with_len, length-range_with_len}
-use Rattle.std.proofs.lemmas.List.Sorted.{Contains-permutation, IsPermutation-more, IsPermutation-refl}
+use Rattle.std.proofs.lemmas.List.Sorted.{Contains-permutation, IsPermutation-more}
 use Rattle.std.proofs.lemmas.Option.{slice_get_within, get_or_from_slice_get}
 use Rattle.dl_base.specs.Derivation.{inverse}
 use Rattle.dl_base.specs.Tables.{TableRow, IsIn, AreCounted}
@@ -13,11 +13,11 @@ use Rattle.dl_base.specs.declared.concept.Role.{Role}
 use Rattle.dl_base.specs.declared.concept.Basic.{Basic}
 use Rattle.dl_base.specs.declared.concept.Basic.TheVariants as basic
 use Rattle.dl_base.proofs.PlaceLemmas.{got_pushed, map_from, member_at, place_of, some_same}
-use Rattle.query_shape.specs.Shape.{Layout, IsTermOf, IsBelow}
+use Rattle.query_shape.specs.Shape.{Layout, IsTermOf}
 use Rattle.query_shape.specs.declared.layout.ShapeAtom.{ShapeAtom}
 use Rattle.query_shape.specs.declared.layout.ShapeAtom.TheVariants as shape
-use Rattle.join_plan.specs.Plans.{BeginsLeast, IsTermKnown, IsLeastScan, IsLeft, IsNamed, IsNextStep, IsPathFor, IsPlanOf, LeadsBy, LooksUp, Scans, places}
-use Rattle.join_plan.specs.Choice.{AreCandidates, AreSizes, Costs, HasDearer, IsCheapest, IsMarked, IsNoDearer, IsSized}
+use Rattle.join_plan.specs.Plans.{BeginsLeast, IsTermKnown, IsLeastScan, IsLeft, IsNextStep, IsPathFor, LeadsBy, LooksUp, Scans, places}
+use Rattle.join_plan.specs.Choice.{AreSizes, Costs, HasDearer, IsCheapest, IsMarked, IsNoDearer, IsSized}
 use Rattle.join_plan.specs.declared.candidates.Candidate.{Candidate}
 use Rattle.join_plan.specs.declared.offers.Choice.{Choice}
 use Rattle.join_plan.specs.declared.offers.Cost.{Cost}
@@ -355,33 +355,6 @@ draft_more s left known new steps step i c draft at place count marks next = rec
     off : (k : ℕ) → IsTermKnown s steps k ⊎ IsTermOf k c.atom → IsMarked known k ⊎ IsTermOf k c.atom
     off k (inl m) = inl ((draft.marks k).1 m)
     off k (inr t) = inr t
-
--- ---- the first draft and the last
-
-pub draft_none : (s : Layout) (table : List TableRow) (left : List Candidate) (known : List Bool) → AreCandidates table s.atoms left → length known ≡ length s.terms
-    → ((k : ℕ) → IsMarked known k ↔ IsNamed s k) → IsDraft s left known []
-draft_none s table left known all count marks = record {
-  order = rw all.places (IsPermutation-refl (range_with_len 0 (length s.atoms)));
-  there = all.there;
-  count = count;
-  marks = λ k. (λ m. inl ((marks k).0 m), named k);
-  each = λ k step at. absurd cc;
-}
-  where
-    named : (k : ℕ) → IsTermKnown s [] k → IsMarked known k
-    named k (inl n) = (marks k).1 n
-    named k (inr r) = absurd (omega (arith, r.2.1))
-
-pub draft_done : (s : Layout) (left : List Candidate) (known : List Bool) (steps : List Step) → length left ≡ 0 → IsDraft s left known steps → IsPlanOf s steps
-draft_done s [] known steps none draft = record { order = rw append-nil at draft.order; each = draft.each }
-draft_done s (c ∷ left) known steps none draft = absurd (omega arith)
-
--- the terms of a candidate have marks
-pub marks_below : (s : Layout) (left : List Candidate) (known : List Bool) (steps : List Step) → All (IsBelow (length s.terms)) s.atoms → IsDraft s left known steps
-    → All (λ (c : Candidate). IsBelow (length known) c.atom) left
-marks_below s left known steps below draft k d within =
-    let c : Candidate = get_or left k d in
-    rw draft.count (All-contains (IsBelow (length s.terms)) s.atoms c.atom below (member_at s.atoms c.place c.atom (draft.there k d within)))
 
 -- the draft, the sizes and the least scans behind one more step
 pub record HasStep (table : List TableRow) (s : Layout) (left : List Candidate) (known : List Bool) (steps : List Step) : Type 0 where
