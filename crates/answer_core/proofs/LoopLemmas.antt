@@ -1,23 +1,20 @@
 -- What the search for keys has found so far.
-use Rattle.std.proofs.Common.{◌≡◌, ◌≢◌, ◌↔◌, ℕ, ◌⊎◌, inl, inr, ◌<◌, List, [], ◌∷◌, length, take, All, Contains, Option, refl, sym, ◌∙◌, ap, subst, arith}
-use Rattle.std.specs.Cmp.Lexicographic.{slice_cmp}
-use Rattle.std.specs.declared.cmp.Ordering.{Ordering}
-use Rattle.std.specs.declared.cmp.Ordering.TheVariants.{Less, Equal, Greater}
-use Rattle.std.proofs.lemmas.Cmp.{lists_total, tied_itself}
+use Rattle.std.proofs.Common.{◌≡◌, ◌↔◌, ℕ, ◌⊎◌, inl, inr, ◌<◌, List, [], length, slice_index, All, Contains, Option, refl, sym, ◌∙◌, subst, arith}
 use Rattle.std.proofs.lemmas.List.Elements.{All-nil}
 use Rattle.dl_base.specs.Ontology.{Terminology}
-use Rattle.dl_base.specs.Tables.{TableRow, elem_cmp}
+use Rattle.dl_base.specs.Tables.{TableRow}
 use Rattle.dl_base.specs.declared.concept.Role.{Role}
 use Rattle.dl_base.specs.declared.element.Elem.{Elem}
 use Rattle.dl_base.specs.declared.row.NamedRow.{NamedRow}
-use Rattle.dl_base.proofs.ElemLemmas.{elem_total, elem_same}
-use Rattle.dl_base.proofs.RisingLemmas.{contains_cases, contains_first, contains_later, slice_same}
+use Rattle.dl_base.proofs.RisingLemmas.{contains_cases, contains_first, contains_later}
 use Rattle.query_shape.specs.Shape.{IsShapeMatch, IsLayout}
 use Rattle.query_shape.specs.Lifting.{LiftsShape}
-use Rattle.join_ops.specs.Joins.{SearchPlace, Behind, Past, Search, AreLeft, AreMatches, IsNext, SkipsAlike, IsFixed}
+use Rattle.join_ops.specs.Joins.{SearchPlace, Behind, Past, IsFound, IsLast}
+use Rattle.join_ops.specs.Matching.{PlannedSearch, HasLeft, AreMatches, IsNextOf, SkipsAgreeing}
+use Rattle.join_ops.specs.Orders.{AgreeUpTo, images_of}
 use Rattle.answer_core.specs.Binding.{BoundQuery}
 use Rattle.answer_core.specs.Found.{AllStand, IsFoundKey, IsTableOf, AddsLifted, AreWithin, HasKeyOf}
-use Rattle.answer_core.proofs.RankLemmas.{rank, tuples, elements, rank_falls, rank_past, match_in}
+use Rattle.answer_core.proofs.RankLemmas.{rank, tuples, elements, rank_falls, rank_past, elements_in}
 use Rattle.answer_core.proofs.ReadLemmas.{reads_along}
 
 -- one of these matches lifts and has these individuals at the answer places
@@ -30,30 +27,19 @@ IsKeyFound table b count found images = (o : Terminology) (rows : List NamedRow)
     → IsTableOf o rows names generation table → LiftsShape o rows names generation b.shape images → (numbers : List ℕ) → AllStand images b.answers count numbers → Contains found numbers
 
 -- the keys found are those of matches that lift, and each match that lifts and isn't left has its key among them
-pub record FoundSoFar (table : List TableRow) (b : BoundQuery) (fixed : List (Option ℕ)) (count : ℕ) (search : Search) (found : List (List ℕ)) : Type 0 where
+pub record FoundSoFar (table : List TableRow) (b : BoundQuery) (fixed : List (Option ℕ)) (count : ℕ) (search : PlannedSearch) (found : List (List ℕ)) : Type 0 where
   pub all : List (List Elem)
   pub left : List (List Elem)
   pub are : AreMatches table b.shape fixed all
   pub among : (images : List Elem) → Contains left images → Contains all images
-  pub goes_on : AreLeft table search left
+  pub goes_on : HasLeft table search left
   pub within : AreWithin count found
   pub only : (o : Terminology) (rows : List NamedRow) (names : List (List ℕ)) (generation : Role → ℕ) → IsTableOf o rows names generation table
       → (numbers : List ℕ) → Contains found numbers → IsLiftedRead o rows names generation b count all numbers
   pub each : (images : List Elem) → Contains all images → Contains left images ⊎ IsKeyFound table b count found images
 
-same_images : (xs ys : List Elem) → (xs ≡ ys) ⊎ (xs ≢ ys)
-same_images xs ys = by (slice_cmp elem_cmp xs ys) refl
-  where
-    tied : xs ≡ ys → slice_cmp elem_cmp xs ys ≡ Equal
-    tied same = subst (λ (l : List Elem). slice_cmp elem_cmp xs l ≡ Equal) same (tied_itself (lists_total elem_total) xs)
-
-    by : (r : Ordering) → slice_cmp elem_cmp xs ys ≡ r → (xs ≡ ys) ⊎ (xs ≢ ys)
-    by Less e = inr (λ same. let both : Less ≡ Equal = sym e ∙ tied same in cc)
-    by Equal e = inl (slice_same elem_cmp elem_same xs ys e)
-    by Greater e = inr (λ same. let both : Greater ≡ Equal = sym e ∙ tied same in cc)
-
 module _ (table : List TableRow) (b : BoundQuery) (fixed : List (Option ℕ)) (count : ℕ) where
-  pub found_none : (search : Search) (found : List (List ℕ)) → found ≡ [] → (left : List (List Elem)) × AreLeft table search left × AreMatches table b.shape fixed left
+  pub found_none : (search : PlannedSearch) (found : List (List ℕ)) → found ≡ [] → (left : List (List Elem)) × HasLeft table search left × AreMatches table b.shape fixed left
       → FoundSoFar table b fixed count search found
   found_none search found none (left, goes_on, are) = record {
     all = left;
@@ -69,39 +55,49 @@ module _ (table : List TableRow) (b : BoundQuery) (fixed : List (Option ℕ)) (c
       nothing : (numbers : List ℕ) → Contains found numbers → ⊥
       nothing numbers c = let d : Contains [] numbers = subst (λ (ks : List (List ℕ)). Contains ks numbers) none c in omega (arith, d.1)
 
-  module _ (search : Search) (found : List (List ℕ)) (so_far : FoundSoFar table b fixed count search found) (new : Search) (next : IsNext table so_far.left new) where
-    next_left : Contains so_far.left next.images
-    next_left = subst (λ (ms : List (List Elem)). Contains ms next.images) (sym next.first) (contains_first next.images next.others)
+  module _ (search : PlannedSearch) (found : List (List ℕ)) (so_far : FoundSoFar table b fixed count search found) (new : PlannedSearch) (next : IsNextOf table search.search.place so_far.left new) where
+    -- the images of the next match
+    abbrev pub next_images : List Elem
+    next_images = images_of new.levels next.elements
+
+    next_left : Contains so_far.left next_images
+    next_left = subst (λ (ms : List (List Elem)). Contains ms next_images) (sym next.first) (contains_first next_images next.others)
 
     -- the next match is a match
-    pub next_match : IsShapeMatch table b.shape next.images
-    next_match = ((so_far.are.each next.images).0 (so_far.among next.images next_left)).0
+    pub next_match : IsShapeMatch table b.shape next_images
+    next_match = ((so_far.are.each next_images).0 (so_far.among next_images next_left)).0
+
+    next_found : IsFound table new.search.atoms new.search.fixed next.elements
+    next_found = subst (IsLast table new.search.atoms new.search.fixed) next.stands next.goes_on.goes_on.last
+
+    next_in : IsLayout b.shape → Contains (tuples (elements table) b.shape.terms) next.elements
+    next_in layout = elements_in table b.shape new.levels next.elements layout next_match (next_found.count ∙ sym next.goes_on.count) (λ level below. next.goes_on.covers level (subst (λ (n : ℕ). level < n) next.goes_on.count below))
 
     -- and it brings the search nearer to its end
-    pub next_falls : IsLayout b.shape → rank (tuples (elements table) b.shape.terms) new.place < rank (tuples (elements table) b.shape.terms) search.place
-    next_falls layout = rank_falls (tuples (elements table) b.shape.terms) search.place new.place next.images ((so_far.goes_on.each next.images).0 next_left).1 next.stands (match_in table b.shape next.images layout next_match)
+    pub next_falls : IsLayout b.shape → rank (tuples (elements table) b.shape.terms) new.search.place < rank (tuples (elements table) b.shape.terms) search.search.place
+    next_falls layout = rank_falls (tuples (elements table) b.shape.terms) search.search.place new.search.place next.elements next.behind next.stands (next_in layout)
 
     -- also behind all that agree with it
-    pub skip_falls : (n : ℕ) (newer : Search) → IsLayout b.shape → newer.place ≡ Past n next.images
-        → rank (tuples (elements table) b.shape.terms) newer.place < rank (tuples (elements table) b.shape.terms) search.place
+    pub skip_falls : (n : ℕ) (newer : PlannedSearch) → IsLayout b.shape → newer.search.place ≡ Past n next.elements
+        → rank (tuples (elements table) b.shape.terms) newer.search.place < rank (tuples (elements table) b.shape.terms) search.search.place
     skip_falls n newer layout stands =
         let all = tuples (elements table) b.shape.terms in
-        let falls = rank_falls all search.place (Behind next.images) next.images ((so_far.goes_on.each next.images).0 next_left).1 refl (match_in table b.shape next.images layout next_match) in
-        let more = rank_past all n next.images in
-        subst (λ (p : SearchPlace). rank all p < rank all search.place) (sym stands) (omega (arith, falls, more))
+        let falls = rank_falls all search.search.place (Behind next.elements) next.elements next.behind refl (next_in layout) in
+        let more = rank_past all n next.elements in
+        subst (λ (p : SearchPlace). rank all p < rank all search.search.place) (sym stands) (omega (arith, falls, more))
 
     -- the answer places have an image
-    pub next_places : All (λ n. n < length b.shape.terms) b.answers → All (λ p. p < length next.images) b.answers
+    pub next_places : All (λ n. n < length b.shape.terms) b.answers → All (λ p. p < length next_images) b.answers
     next_places within = subst (λ (n : ℕ). All (λ p. p < n) b.answers) (sym next_match.count) within
 
-    module _ (more : List (List ℕ)) (within : AreWithin count found → AreWithin count more) (adds : AddsLifted b.shape next.images b.answers count found more) where
-      goes_over : (newer : Search) (rest : List (List Elem)) → AreLeft table newer rest → ((images : List Elem) → Contains rest images → Contains next.others images)
+    module _ (more : List (List ℕ)) (within : AreWithin count found → AreWithin count more) (adds : AddsLifted b.shape next_images b.answers count found more) where
+      goes_over : (newer : PlannedSearch) (rest : List (List Elem)) → HasLeft table newer rest → ((images : List Elem) → Contains rest images → Contains next.others images)
           → ((images : List Elem) → Contains next.others images → Contains rest images ⊎ IsKeyFound table b count more images) → FoundSoFar table b fixed count newer more
       goes_over newer rest goes_on into out = record {
         all = so_far.all;
         left = rest;
         are = so_far.are;
-        among = λ images c. so_far.among images (subst (λ (ms : List (List Elem)). Contains ms images) (sym next.first) (contains_later next.images next.others images (into images c)));
+        among = λ images c. so_far.among images (subst (λ (ms : List (List Elem)). Contains ms images) (sym next.first) (contains_later next_images next.others images (into images c)));
         goes_on = goes_on;
         within = within so_far.within;
         only = only;
@@ -112,10 +108,10 @@ module _ (table : List TableRow) (b : BoundQuery) (fixed : List (Option ℕ)) (c
               → (numbers : List ℕ) → Contains more numbers → IsLiftedRead o rows names generation b count so_far.all numbers
           only o rows names generation base numbers c = elim ((adds o rows names generation table base next_match numbers).0 c) [
             | inl d ↦ so_far.only o rows names generation base numbers d
-            | inr r ↦ (next.images, so_far.among next.images next_left, r.0, r.1)
+            | inr r ↦ (next_images, so_far.among next_images next_left, r.0, r.1)
           ]
 
-          here : (images : List Elem) → images ≡ next.images → IsKeyFound table b count more images
+          here : (images : List Elem) → images ≡ next_images → IsKeyFound table b count more images
           here images same o rows names generation base lifts numbers r = (adds o rows names generation table base next_match numbers).1
               (inr (subst (λ (ms : List Elem). LiftsShape o rows names generation b.shape ms × AllStand ms b.answers count numbers) same (lifts, r)))
 
@@ -123,7 +119,7 @@ module _ (table : List TableRow) (b : BoundQuery) (fixed : List (Option ℕ)) (c
           stays images there o rows names generation base lifts numbers r = (adds o rows names generation table base next_match numbers).1 (inl (there o rows names generation base lifts numbers r))
 
           each : (images : List Elem) → Contains so_far.left images ⊎ IsKeyFound table b count found images → Contains rest images ⊎ IsKeyFound table b count more images
-          each images (inl c) = elim (contains_cases next.images next.others images (subst (λ (ms : List (List Elem)). Contains ms images) next.first c)) [
+          each images (inl c) = elim (contains_cases next_images next.others images (subst (λ (ms : List (List Elem)). Contains ms images) next.first c)) [
             | inl same ↦ inr (here images same)
             | inr d ↦ out images d
           ]
@@ -132,19 +128,20 @@ module _ (table : List TableRow) (b : BoundQuery) (fixed : List (Option ℕ)) (c
       pub found_next : FoundSoFar table b fixed count new more
       found_next = goes_over new next.others next.goes_on (λ images c. c) (λ images c. inl c)
 
-      -- those that have so many first images as the next match have its key
-      pub found_skipped : (n : ℕ) (newer : Search) → All (λ p. p < n) b.answers → HasKeyOf next.images b.answers count more → SkipsAlike table next.others n next.images newer
-          → FoundSoFar table b fixed count newer more
-      found_skipped n newer places has skips = goes_over newer skips.others skips.goes_on (λ images c. ((skips.each images).0 c).0) out
+      -- those that agree with the next match up to the last of the answer terms have its key
+      pub found_skipped : (n : ℕ) (newer : PlannedSearch) → newer.levels ≡ new.levels → All (λ p. p < length new.levels) b.answers → All (λ p. slice_index new.levels p < n) b.answers
+          → HasKeyOf next_images b.answers count more → SkipsAgreeing table next.others n next.elements newer → FoundSoFar table b fixed count newer more
+      found_skipped n newer same places first has skips = goes_over newer skips.others skips.goes_on (λ images c. (skips.kept images c).0) out
         where
           out : (images : List Elem) → Contains next.others images → Contains skips.others images ⊎ IsKeyFound table b count more images
-          out images c = elim (same_images (take n images) (take n next.images)) [
-            | inl same ↦ inr (λ o rows names generation base lifts numbers r. has numbers (reads_along n images next.images count b.answers numbers same places r))
-            | inr apart ↦ inl ((skips.each images).1 (c, apart))
+          out images c = elim (skips.out images c) [
+            | inl left ↦ inl left
+            | inr agree ↦ inr (λ o rows names generation base lifts numbers r. has numbers
+                (reads_along new.levels n images next_images count b.answers numbers (subst (λ (ls : List ℕ). AgreeUpTo ls n images (images_of ls next.elements)) same agree) places first r))
           ]
 
   -- at the end
-  module _ (search : Search) (found : List (List ℕ)) (so_far : FoundSoFar table b fixed count search found) (none : so_far.left ≡ []) where
+  module _ (search : PlannedSearch) (found : List (List ℕ)) (so_far : FoundSoFar table b fixed count search found) (none : so_far.left ≡ []) where
     pub found_all : (o : Terminology) (rows : List NamedRow) (names : List (List ℕ)) (generation : Role → ℕ) → IsTableOf o rows names generation table
         → (numbers : List ℕ) → Contains found numbers ↔ IsFoundKey o rows names generation table b fixed count numbers
     found_all o rows names generation base numbers = (

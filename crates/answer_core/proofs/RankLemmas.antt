@@ -1,13 +1,13 @@
 -- How many lists of elements a search may still come to.
-use Rattle.std.proofs.Common.{◌≡◌, ℕ, suc, ◌<◌, ◌≤◌, ◌⊎◌, inl, inr, Bool, true, false, if◌then◌else◌, List, [], ◌∷◌, map, length, take, All, Contains, slice_get, Some, refl, sym, ap, subst, arith}
+use Rattle.std.proofs.Common.{◌≡◌, ℕ, suc, ◌<◌, ◌≤◌, ◌⊎◌, inl, inr, Bool, true, false, if◌then◌else◌, List, [], ◌∷◌, map, length, take, All, Contains, slice_get, Some, refl, sym, ap, ◌∙◌, subst, arith}
 use Rattle.std.specs.Cmp.Lexicographic.{slice_cmp}
 use Rattle.std.specs.List.{AllByRecursion, flat_map}
 use Rattle.std.specs.Ordering.{is_lt}
-use Rattle.std.specs.declared.cmp.Ordering.{Ordering}
-use Rattle.std.specs.declared.cmp.Ordering.TheVariants.{Less, Equal, Greater}
+use Rattle.std.specs.declared.cmp.Ordering.TheVariants.{Less}
 use Rattle.std.proofs.lemmas.Cmp.{lists_total, tied_itself}
 use Rattle.std.proofs.lemmas.List.Elements.{recursion_from_All}
-use Rattle.std.proofs.lemmas.Option.{get_or_from_slice_get}
+use Rattle.std.proofs.lemmas.List.{length-map}
+use Rattle.std.proofs.lemmas.Option.{get_or_from_slice_get, slice_get_within}
 use Rattle.dl_base.specs.Tables.{TableRow, ConceptRow, RoleRow, turned_row, elem_cmp}
 use Rattle.dl_base.specs.declared.element.Elem.{Elem}
 use Rattle.dl_base.specs.declared.query.Term.{Term}
@@ -17,7 +17,9 @@ use Rattle.query_shape.specs.Shape.{Layout, IsLayout, IsShapeMatch, HoldsAt, IsT
 use Rattle.query_shape.specs.declared.layout.ShapeAtom.{ShapeAtom}
 use Rattle.query_shape.specs.declared.layout.ShapeAtom.TheVariants as shape
 use Rattle.join_ops.specs.Joins.{SearchPlace, Start, Behind, Past, End, IsBehind}
-use Rattle.dl_base.proofs.PlaceLemmas.{flat_there, map_contains}
+use Rattle.dl_base.proofs.PlaceLemmas.{flat_there, map_contains, place_of}
+use Rattle.join_ops.specs.Orders.{images_of}
+use Rattle.join_ops.proofs.ImageLemmas.{image_at}
 use Rattle.join_ops.proofs.Beyond.{take_less, take_rises}
 use Rattle.join_ops.proofs.LeftLemmas.{less_of}
 
@@ -57,15 +59,22 @@ image_has table images k (shape.Role r n m) is (e, f, at_n, at_m, there) =
       | inr i ↦ (f, subst (λ (j : ℕ). slice_get images j ≡ Some f) (sym i) at_m, both.1)
     ]
 
--- a match is one of the lists
-pub match_in : (table : List TableRow) (s : Layout) (images : List Elem) → IsLayout s → IsShapeMatch table s images → Contains (tuples (elements table) s.terms) images
-match_in table s images layout is = in_tuples (elements table) s.terms images is.count (recursion_from_All (Contains (elements table)) images each)
+-- the elements by level of a match are one of the lists
+pub elements_in : (table : List TableRow) (s : Layout) (levels : List ℕ) (by_level : List Elem) → IsLayout s → IsShapeMatch table s (images_of levels by_level) → length by_level ≡ length levels
+    → ((level : ℕ) → level < length levels → Contains levels level) → Contains (tuples (elements table) s.terms) by_level
+elements_in table s levels by_level layout is long covers = in_tuples (elements table) s.terms by_level whole (recursion_from_All (Contains (elements table)) by_level each)
   where
-    each : All (Contains (elements table)) images
+    whole : length by_level ≡ length s.terms
+    whole = long ∙ sym (length-map levels _) ∙ is.count
+
+    each : All (Contains (elements table)) by_level
     each k d below =
-        let use_of = layout.used k (subst (λ (n : ℕ). k < n) is.count below) in
-        let image = image_has table images k use_of.0 use_of.2 (is.atoms use_of.0 use_of.1) in
-        subst (Contains (elements table)) (sym (get_or_from_slice_get images k image.0 d image.1)) image.2
+        let term = covers k (omega (arith, below, long)) in
+        let on : slice_get levels term.0 ≡ Some k = place_of levels k term in
+        let use_of = layout.used term.0 (omega (arith, slice_get_within levels term.0 k on, whole, long)) in
+        let image = image_has table (images_of levels by_level) term.0 use_of.0 use_of.2 (is.atoms use_of.0 use_of.1) in
+        let here : slice_get by_level k ≡ Some image.0 = sym (image_at levels by_level term.0 k on below) ∙ image.1 in
+        subst (Contains (elements table)) (sym (get_or_from_slice_get by_level k image.0 d here)) image.2
 
 -- how many of the list pass
 abbrev pub passing : (List Elem → Bool) → List (List Elem) → ℕ

@@ -1,5 +1,5 @@
 -- What a match has at the answer places.
-use Rattle.std.proofs.Common.{◌≡◌, ◌↔◌, ℕ, ◌⊎◌, inl, inr, ◌<◌, ◌≤◌, true, List, [], ◌∷◌, length, take, zero, suc, get_or, All, Contains, slice_get, Some, refl, sym, ◌∙◌, ap, subst, arith}
+use Rattle.std.proofs.Common.{◌≡◌, ◌↔◌, ℕ, ◌⊎◌, inl, inr, ◌<◌, ◌≤◌, true, List, [], ◌∷◌, length, get_or, All, Contains, slice_get, slice_index, Some, refl, sym, ◌∙◌, ap, subst, arith}
 use Rattle.std.specs.List.{AllByRecursion}
 use Rattle.std.proofs.lemmas.List.Elements.{All-cons, All-nil, All-contains, Contains-get_or, recursion_from_All}
 use Rattle.std.proofs.lemmas.Option.{slice_get-get_or, slice_get_within, get_or_from_slice_get}
@@ -8,18 +8,13 @@ use Rattle.dl_base.specs.declared.element.Elem.TheVariants as elem
 use Rattle.match_filter.specs.LiftingTest.{DecidesLifting}
 use Rattle.query_shape.specs.Shape.{Layout}
 use Rattle.answer_core.specs.Found.{IsOf, Stands, AllStand, AddsKey, AddsLifted, AreWithin}
+use Rattle.join_ops.specs.Orders.{AgreeUpTo}
 use Rattle.answer_core.proofs.ListLemmas.{zip_each, zip_at}
 use Rattle.dl_base.proofs.PlaceLemmas.{some_same}
 
 -- the image at a place
 pub stands_here : (images : List Elem) (count p n : ℕ) (d : Elem) → p < length images → IsOf count (get_or images p d) n → Stands images count p n
 stands_here images count p n d below is = (slice_get-get_or images p d below ∙ ap Some is.0, is.1)
-
-get_taken : {X : Type 0} (n p : ℕ) (xs : List X) → p < n → slice_get (take n xs) p ≡ slice_get xs p
-get_taken zero p xs below = absurd (omega (arith, below))
-get_taken (suc n) p [] below = refl
-get_taken (suc n) zero (x ∷ xs) below = refl
-get_taken (suc n) (suc p) (x ∷ xs) below = get_taken n p xs (omega (arith, below))
 
 -- each place that was gone through
 pub reads_all : (images : List Elem) (count : ℕ) (places key : List ℕ) (i : ℕ) → length key ≡ length places → length places ≤ i
@@ -84,15 +79,15 @@ added_within es count places key old new adds reads within k d below = elim ((ad
 ]
 
 -- what is read is told by the images up to the last of the places
-pub reads_along : (n : ℕ) (images others : List Elem) (count : ℕ) (places numbers : List ℕ) → take n images ≡ take n others → All (λ p. p < n) places
+pub reads_along : (levels : List ℕ) (n : ℕ) (images others : List Elem) (count : ℕ) (places numbers : List ℕ) → AgreeUpTo levels n images others → All (λ p. p < length levels) places → All (λ p. slice_index levels p < n) places
     → AllStand images places count numbers → AllStand others places count numbers
-reads_along n images others count places numbers same within reads = along places numbers (recursion_from_All (λ (p : ℕ). p < n) places within) reads
+reads_along levels n images others count places numbers agree within first reads =
+    along places numbers (recursion_from_All (λ (p : ℕ). p < length levels) places within) (recursion_from_All (λ (p : ℕ). slice_index levels p < n) places first) reads
   where
-    get_along : (p : ℕ) → p < n → slice_get images p ≡ slice_get others p
-    get_along p below = sym (get_taken n p images below) ∙ (ap (λ (l : List Elem). slice_get l p) same ∙ get_taken n p others below)
-
-    along : (places numbers : List ℕ) → AllByRecursion (λ (p : ℕ). p < n) places → AllStand images places count numbers → AllStand others places count numbers
-    along [] [] within reads = reads
-    along [] (m ∷ ms) within reads = absurd reads
-    along (p ∷ ps) [] within reads = absurd reads
-    along (p ∷ ps) (m ∷ ms) within reads = ((sym (get_along p within.0) ∙ reads.0.0, reads.0.1), along ps ms within.1 reads.1)
+    along : (places numbers : List ℕ) → AllByRecursion (λ (p : ℕ). p < length levels) places → AllByRecursion (λ (p : ℕ). slice_index levels p < n) places → AllStand images places count numbers → AllStand others places count numbers
+    along [] [] within first reads = reads
+    along [] (m ∷ ms) within first reads = absurd reads
+    along (p ∷ ps) [] within first reads = absurd reads
+    along (p ∷ ps) (m ∷ ms) within first reads =
+        let same : slice_get images p ≡ slice_get others p = agree p (get_or levels p 0) (slice_get-get_or levels p 0 within.0) first.0 in
+        ((sym same ∙ reads.0.0, reads.0.1), along ps ms within.1 first.1 reads.1)

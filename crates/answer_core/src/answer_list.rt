@@ -1,5 +1,5 @@
 //! The answers of a query.
-ghost use Rattle.std.specs.Prelude.{◌≡◌, ◌<◌, ◌⊎◌, ◌↔◌, ℕ, List, All, Contains, IfOk, MatchOption, OnOk, length};
+ghost use Rattle.std.specs.Prelude.{◌≡◌, ◌<◌, ◌⊎◌, ◌↔◌, ℕ, List, All, Contains, IfOk, MatchOption, OnOk, length, slice_index};
 ghost use Rattle.std.specs.Bool.{OnTrue, OnFalse};
 ghost use Rattle.dl_base.specs.Ontology.{Terminology, IsTerminology};
 ghost use Rattle.dl_base.specs.Query.{Question, IsQuery};
@@ -8,6 +8,7 @@ ghost use Rattle.dl_base.specs.Completion.{AreCompleted};
 ghost use Rattle.dl_base.specs.declared.concept.Role.{Role as AnyRole};
 ghost use Rattle.dl_base.specs.declared.row.NamedRow.{NamedRow as AnyRow};
 ghost use Rattle.query_shape.specs.Shape.{IsLayout};
+ghost use Rattle.join_plan.specs.Plans.{IsPlanOf};
 ghost use Rattle.answer_core.specs.Binding.{IsBoundTo};
 ghost use Rattle.answer_core.specs.Found.{AddsLifted, AllStand, AreWithin, HasKeyOf, IsFoundKey, IsOf, IsTableOf};
 
@@ -16,6 +17,7 @@ use crate::fixed::{fixed_numbers, has_names};
 use crate::number_keys::NumberKeys;
 use dl_base::{Elem, Items, Keys, NameBook, Tables};
 use join_ops::Matches;
+use join_plan::Plan;
 use match_filter::lifts;
 use query_shape::Shape;
 use std::alloc::{AllocError, Global};
@@ -23,8 +25,8 @@ use std::alloc::{AllocError, Global};
 /// The certain answers, in order, each once: the keys of the matches in completed tables that lift, have individuals of
 /// the book at the answer places, and have each name of the query on its own individual.
 ///
-/// It takes memory for the keys, and none for further matches of a key. Behind a match that lifts the search goes on
-/// behind all that agree with it up to the last of the answer terms.
+/// It takes memory for the keys, and none for further matches of a key. Matches are sought by the plan. Behind one that
+/// lifts the search goes on behind all that agree with it up to the last of the answer terms in the plan's order.
 pub fn answers<T: Tables>(
     alloc: Global,
     t: &T,
@@ -43,6 +45,7 @@ pub fn answers<T: Tables>(
         alloc,
         t,
         &b.shape,
+        &b.plan,
         b.answers.items(),
         fixed.as_slice(),
         individuals.len(),
@@ -51,16 +54,18 @@ pub fn answers<T: Tables>(
 }
 
 /// The keys by number, at the places, of the matches that lift and place the fixed terms so, over individuals whose numbers
-/// are below `count`.
+/// are below `count`. They are sought by the plan.
 fn found_keys<T: Tables>(
     alloc: Global,
     t: &T,
     shape: &Shape,
+    plan: &Plan,
     places: &[u32],
     fixed: &[Option<u32>],
     count: usize,
 ) -> Result<NumberKeys, AllocError>
     requires layout { IsLayout shape.now }
+    requires plan { IsPlanOf shape.now plan.now }
     requires places { All (λ p. p < length shape.now.terms) places.now }
     requires fixed { length fixed.now ≡ length shape.now.terms }
     ensures within { IfOk result (AreWithin count) }
@@ -69,10 +74,10 @@ fn found_keys<T: Tables>(
         → IfOk result (λ found. (numbers : List ℕ) → Contains found numbers
         ↔ IsFoundKey o rows names generation (T.rows t.now) (record { shape = shape.now; answers = places.now }) fixed.now count numbers) }
 {
-    let terms = terms_up_to(places);
     let mut key = vec![in alloc; 0u32; places.len()]?;
     let mut found = NumberKeys::new(alloc);
-    let mut matches = Matches::new(alloc, shape, fixed)?;
+    let mut matches = Matches::new(alloc, shape, plan, fixed)?;
+    let levels = levels_up_to(places, matches.levels());
     'matches: while matches.advance(t) {
         let settled = add_key(
             alloc,
@@ -84,21 +89,22 @@ fn found_keys<T: Tables>(
             key.as_mut_slice(),
         )?;
         if settled {
-            matches.skip_alike(terms);
+            matches.skip_agreeing(levels);
         }
     }
     Ok(found)
 }
 
-/// How many first terms there are up to the last of those at the places.
-fn terms_up_to(places: &[u32]) -> usize
-    ensures { All (λ p. p < result) places.now }
+/// How many first levels there are up to the last of those that the terms at the places have.
+fn levels_up_to(places: &[u32], levels: &[u32]) -> usize
+    requires { All (λ p. p < length levels.now) places.now }
+    ensures { All (λ p. slice_index levels.now p < result) places.now }
 {
-    let mut terms = 0;
+    let mut most = 0;
     for place in places {
-        terms = terms.max(*place as usize + 1);
+        most = most.max(levels[*place as usize] as usize + 1);
     }
-    terms
+    most
 }
 
 /// Adds the key that the match has at the places, where all of it are individuals whose numbers are below `count` and the

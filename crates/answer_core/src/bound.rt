@@ -6,36 +6,47 @@ ghost use Rattle.query_shape.specs.ShapeFault.{IsShapeFault};
 ghost use Rattle.answer_core.specs.Binding.{IsBoundTo};
 
 use dl_base::{Items, Name, Ontology, Query, Tables, Term};
+use join_plan::{Plan, plan};
 use query_shape::{Shape, ShapeError, shape};
 use std::alloc::{AllocError, Global};
 use std::marker::Model;
 
-/// The shape of a query, with the numbers of the terms at its answer places.
+/// The shape of a query, with the numbers of the terms at its answer places, and a plan for the search for its matches.
 #[derive(Debug, Drop)]
 pub struct Bound {
     pub(crate) shape: Shape,
     pub(crate) answers: Items<u32>,
+    pub(crate) plan: Plan,
 }
 
 impl Model for Bound {
-    ghost use Rattle.answer_core.specs.Binding.{BoundQuery, IsBound};
+    ghost use Rattle.answer_core.specs.Binding.{BoundQuery};
 
     ghost Value = { BoundQuery };
 
+    ghost use Rattle.answer_core.specs.Binding.{IsPlanned};
+
     ghost view = { λ b. record { shape = b.shape; answers = b.answers } };
 
-    ghost invariant = { λ b. IsBound (record { shape = b.shape; answers = b.answers }) };
+    ghost invariant = { λ b. IsPlanned (record { shape = b.shape; answers = b.answers }) b.plan };
 }
 
-/// The query by the numbers of its terms and by the places of the ontology's names. `UnknownConcept` and `UnknownRole`
-/// tell the name of the first atom whose name the ontology lacks, and come exactly where there is one.
-pub fn bind<T: Tables>(alloc: Global, q: &Query, o: &Ontology, _t: &T) -> Result<Bound, ShapeError>
+/// The query by the numbers of its terms and by the places of the ontology's names, with a plan by the sizes of these tables,
+/// in which answer terms come early where that costs no more.
+/// `UnknownConcept` and `UnknownRole` tell the name of the first atom whose name the ontology lacks, and come exactly where
+/// there is one.
+pub fn bind<T: Tables>(alloc: Global, q: &Query, o: &Ontology, t: &T) -> Result<Bound, ShapeError>
     ensures ok { IfOk result (IsBoundTo o.now q.now) }
     ensures err { IfErr result (IsShapeFault o.now q.now) }
 {
     let shape = shape(alloc, q, o)?;
     let answers = variable_numbers(alloc, &shape, q.answers())?;
-    Ok(Bound { shape, answers })
+    let plan = plan(alloc, &shape, answers.items(), t)?;
+    Ok(Bound {
+        shape,
+        answers,
+        plan,
+    })
 }
 
 /// The numbers of these variables among the terms.

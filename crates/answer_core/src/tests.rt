@@ -71,6 +71,41 @@ const BY_REPEATED: [(&[u8], &[u8]); 6] = [
     (b"q() :- A(?x), r(?y, ?x)", b""),
 ];
 
+/// A cycle of r with a mark at its first term, over tables that have three such cycles and one more without the mark.
+const CYCLE: [&[u8]; 4] = [b"r(?x, ?y)", b"r(?y, ?z)", b"r(?z, ?x)", b"A(?x)"];
+
+const CYCLES: &[u8] = b"raa.rab.rbc.rca.Aa.Ac.";
+
+const BY_CYCLE: &[u8] = b"a,a,;a,c,;c,b,;";
+
+/// The orders of four atoms.
+const ORDERS: [[usize; 4]; 24] = [
+    [0, 1, 2, 3],
+    [0, 1, 3, 2],
+    [0, 2, 1, 3],
+    [0, 2, 3, 1],
+    [0, 3, 1, 2],
+    [0, 3, 2, 1],
+    [1, 0, 2, 3],
+    [1, 0, 3, 2],
+    [1, 2, 0, 3],
+    [1, 2, 3, 0],
+    [1, 3, 0, 2],
+    [1, 3, 2, 0],
+    [2, 0, 1, 3],
+    [2, 0, 3, 1],
+    [2, 1, 0, 3],
+    [2, 1, 3, 0],
+    [2, 3, 0, 1],
+    [2, 3, 1, 0],
+    [3, 0, 1, 2],
+    [3, 0, 2, 1],
+    [3, 1, 0, 2],
+    [3, 1, 2, 0],
+    [3, 2, 0, 1],
+    [3, 2, 1, 0],
+];
+
 fn tables(alloc: Global) -> Result<ListedTables, AllocError> {
     let mut rows = Vec::new(alloc);
     for (concept, individual) in CONCEPTS {
@@ -238,4 +273,27 @@ fn witnesses_serve_and_do_not_join(rt: HostRuntime) -> Result<(), Fail> {
 fn no_loop_through_a_witness(rt: HostRuntime) -> Result<(), Fail> {
     let t = listed(rt.alloc(), REPEATED)?;
     assert_answers(rt.alloc(), &rt, &t, &BY_REPEATED)
+}
+
+/// The query of the cycle with its atoms in this order.
+fn cycle_in(alloc: Global, order: [usize; 4]) -> Result<Vec<u8>, AllocError> {
+    let mut text = Vec::new(alloc);
+    text.extend_from_slice(b"q(?x, ?z) :- ")?;
+    for i in 0..4 {
+        if i > 0 {
+            text.extend_from_slice(b", ")?;
+        }
+        text.extend_from_slice(CYCLE[order[i].min(3)])?;
+    }
+    Ok(text)
+}
+
+#[test]
+fn every_order_of_atoms_has_the_same_answers(rt: HostRuntime) -> Result<(), Fail> {
+    let t = listed(rt.alloc(), CYCLES)?;
+    for order in ORDERS {
+        let text = cycle_in(rt.alloc(), order)?;
+        assert_answers(rt.alloc(), &rt, &t, &[(text.as_slice(), BY_CYCLE)])?;
+    }
+    Ok(())
 }

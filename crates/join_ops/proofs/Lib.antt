@@ -7,3 +7,6 @@ pub mod SourceLemmas
 pub mod LeftLemmas
 pub mod Decisions
 pub mod AllFound
+pub mod OrderLemmas
+pub mod ImageLemmas
+pub mod PlannedLemmas

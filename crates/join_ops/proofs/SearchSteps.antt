@@ -14,7 +14,7 @@ use Rattle.join_ops.proofs.LevelLemmas.{goes_deeper, goes_back, gives_least, giv
 use Rattle.join_ops.proofs.Rooms.{room_falls, known_all, offered_known_all}
 use Rattle.join_ops.proofs.Weights.{weight, deeper_falls, back_falls}
 
-take_all : {X : Type 0} (n : ℕ) (xs : List X) → length xs ≤ n → take n xs ≡ xs
+pub take_all : {X : Type 0} (n : ℕ) (xs : List X) → length xs ≤ n → take n xs ≡ xs
 take_all zero [] most = refl
 take_all zero (x ∷ xs) most = absurd (omega (arith, most))
 take_all (suc n) [] most = refl

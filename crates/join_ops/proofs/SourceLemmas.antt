@@ -1,12 +1,12 @@
 -- Sources for the terms, one after another.
-use Rattle.std.proofs.Common.{◌≡◌, ◌≤◌, ◌<◌, ◌+◌, ℕ, ◌⊎◌, inl, inr, List, [], ◌∷◌, ◌++◌, Option, Some, length, map, take, slice_get, get_or, Contains, refl, sym, ap, ◌∙◌, subst, arith, All, add-one}
+use Rattle.std.proofs.Common.{◌≡◌, ◌≤◌, ◌<◌, ◌+◌, ℕ, ◌⊎◌, inl, inr, List, [], ◌∷◌, ◌++◌, Option, Some, length, map, take, slice_get, get_or, Contains, refl, sym, ap, ◌∙◌, subst, arith, add-one}
 use Rattle.std.proofs.lemmas.List.{map_push, length-take-le}
 use Rattle.std.proofs.lemmas.Option.{slice_get_within}
 use Rattle.std.proofs.Math.Seq.{take-suc}
-use Rattle.query_shape.specs.Shape.{Layout, IsLayout, IsBelow, IsTermOf}
+use Rattle.query_shape.specs.Shape.{IsBelow, IsTermOf}
 use Rattle.query_shape.specs.declared.layout.ShapeAtom.{ShapeAtom}
 use Rattle.query_shape.specs.declared.layout.ShapeAtom.TheVariants as shape
-use Rattle.join_ops.specs.Levels.{fixed_of, IsSource, AreSources, IsSearch}
+use Rattle.join_ops.specs.Levels.{fixed_of, IsSource, AreSources, AreOnLevels, IsSearch}
 use Rattle.join_ops.specs.declared.source.Source.{Source}
 use Rattle.join_ops.proofs.LevelLemmas.{get_front, get_at, length_more, sources_long, last_or}
 
@@ -33,35 +33,26 @@ sources_more atoms sources s fixed term below are before is k t at = by (last_or
         let place : term ≡ k = sym (so_far sources fixed term below are) ∙ same in
         subst (λ (n : ℕ). IsSource atoms n t) place (subst (λ (u : Source). IsSource atoms term u) is_it is)
 
--- each term of a shape is in an atom
-pub term_used : (s : Layout) (atoms : List ShapeAtom) (count k : ℕ) → IsLayout s → atoms ≡ s.atoms → count ≡ length s.terms → k < count → (a : ShapeAtom) × Contains atoms a × IsTermOf k a
-term_used s atoms count k layout same long below =
-    let used = layout.used k (omega arith) in
-    (used.0, subst (λ (l : List ShapeAtom). Contains l used.0) (sym same) used.1, used.2)
+pub used_along : (atoms others : List ShapeAtom) (count k : ℕ) → atoms ≡ others → AreOnLevels count atoms → k < count → (a : ShapeAtom) × Contains others a × IsTermOf k a
+used_along atoms others count k same on below =
+    let used = on.used k below in
+    (used.0, subst (λ (l : List ShapeAtom). Contains l used.0) same used.1, used.2)
 
 some_below : (count : ℕ) (a : ShapeAtom) → IsBelow count a → 1 ≤ count
 some_below count (shape.Concept c n) below = omega arith
 some_below count (shape.Role r n m) below = omega (arith, below.0)
 
-all_at : {X : Type 0} (P : X → Type 0) (xs : List X) (x : X) → All P xs → Contains xs x → P x
-all_at P xs x all c = subst P c.2 (all c.0 x c.1)
-
 first_at : (xs : List ShapeAtom) → 1 ≤ length xs → (x : ShapeAtom) × Contains xs x
 first_at [] some = absurd (omega arith)
 first_at (x ∷ xs) some = (x, (0, omega arith, refl))
 
-pub new_search : (s : Layout) (atoms : List ShapeAtom) (sources : List Source) (fixed : List (Option ℕ)) (count : ℕ) → IsLayout s → atoms ≡ s.atoms → length fixed ≡ length s.terms
+pub new_search : (atoms : List ShapeAtom) (sources : List Source) (fixed : List (Option ℕ)) (count : ℕ) → AreOnLevels (length fixed) atoms
     → map fixed_of sources ≡ fixed → count ≡ length fixed → AreSources atoms sources → IsSearch atoms sources count
-new_search s atoms sources fixed count layout same long are counts each =
-    let below = λ (a : ShapeAtom) (c : Contains s.atoms a). all_at (IsBelow (length s.terms)) s.atoms a layout.below c in
-    let whole : length s.terms ≡ count = sym long ∙ sym counts in
-    let first = first_at s.atoms layout.some in
+new_search atoms sources fixed count on are counts each =
+    let first = first_at atoms on.some in
     record {
-      some = some_below count first.0 (rw (← whole) (below first.0 first.1));
+      some = some_below count first.0 (rw counts (on.below first.0 first.1));
       each = omega (arith, sources_long sources, ap length are, counts);
-      below = λ a c. rw (← whole) (below a (subst (λ (l : List ShapeAtom). Contains l a) same c));
+      below = λ a c. rw counts (on.below a c);
       sources_are = each;
     }
-
-pub sources_along : (xs ys : List ShapeAtom) (sources : List Source) → xs ≡ ys → AreSources xs sources → AreSources ys sources
-sources_along xs ys sources same are = subst (λ (l : List ShapeAtom). AreSources l sources) same are

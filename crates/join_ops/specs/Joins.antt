@@ -1,22 +1,17 @@
--- Searches for the matches of a shape in tables, and what these have still to give.
-use Rattle.std.specs.Prelude.{◌≡◌, ◌≢◌, ◌↔◌, ℕ, Bool, true, false, List, [], ◌∷◌, Option, Some, length, take, slice_get, Contains, AllPairs}
+-- Searches in tables for elements that meet atoms, by the levels of terms, and what these have still to give.
+use Rattle.std.specs.Prelude.{◌≡◌, ◌≢◌, ◌↔◌, ℕ, Bool, true, false, List, [], ◌∷◌, Option, Some, length, take, slice_get, Contains}
 use Rattle.std.specs.Cmp.Lexicographic.{slice_cmp}
 use Rattle.std.specs.List.Sorted.{IsStrictlySortedBy}
 use Rattle.std.specs.declared.cmp.Ordering.TheVariants.{Less}
 use Rattle.dl_base.specs.Tables.{TableRow, elem_cmp}
 use Rattle.dl_base.specs.declared.element.Elem.{Elem}
 use Rattle.dl_base.specs.declared.element.Elem.TheVariants as elem
-use Rattle.query_shape.specs.Shape.{Layout, IsShapeMatch, HoldsAt}
+use Rattle.query_shape.specs.Shape.{HoldsAt}
 use Rattle.query_shape.specs.declared.layout.ShapeAtom.{ShapeAtom}
 
 -- each fixed term is on the individual of its number
 abbrev pub IsFixed : List (Option ℕ) → List Elem → Type 0
 IsFixed fixed images = (k n : ℕ) → slice_get fixed k ≡ Some (Some n) → slice_get images k ≡ Some (elem.Named n)
-
--- every match of the shape in the table that places the fixed terms so, each once, and no other
-pub record AreMatches (table : List TableRow) (s : Layout) (fixed : List (Option ℕ)) (matches : List (List Elem)) : Type 0 where
-  pub distinct : AllPairs (λ x y. x ≢ y) matches
-  pub each : (images : List Elem) → Contains matches images ↔ (IsShapeMatch table s images × IsFixed fixed images)
 
 -- before the first match, behind the match that was given last, behind all that have so many first images as it has, or at the end
 pub data SearchPlace : Type 0 where
@@ -25,7 +20,8 @@ pub data SearchPlace : Type 0 where
   Past : ℕ → List Elem → SearchPlace
   End : SearchPlace
 
--- the atoms that are searched for, the individual of each fixed one of their terms, and how far the search has come
+-- the atoms that are searched for, the individual of each fixed one of their terms, and how far the search has come; all by the
+-- levels of the terms
 pub record Search : Type 0 where
   pub atoms : List ShapeAtom
   pub fixed : List (Option ℕ)
@@ -43,6 +39,10 @@ IsBehind Start images = Unit {0}
 IsBehind (Behind last) images = slice_cmp elem_cmp last images ≡ Less
 IsBehind (Past n last) images = slice_cmp elem_cmp (take n last) (take n images) ≡ Less
 IsBehind End images = ⊥
+
+-- the search doesn't stand behind what it gave last
+abbrev pub IsAway : SearchPlace → Type 0
+IsAway place = (last : List Elem) → place ≡ Behind last → ⊥
 
 -- what was given last is a match
 abbrev pub IsLast : List TableRow → List ShapeAtom → List (Option ℕ) → SearchPlace → Type 0

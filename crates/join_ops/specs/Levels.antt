@@ -96,6 +96,12 @@ abbrev pub Finds : List TableRow → List ShapeAtom → List (Option ℕ) → Se
 Finds table atoms fixed place true images = IsLeast table atoms fixed place images
 Finds table atoms fixed place false images = (others : List Elem) → IsFound table atoms fixed others → IsBehind place others → ⊥
 
+-- There are atoms, with terms on so many levels, and each level is that of a term.
+pub record AreOnLevels (count : ℕ) (atoms : List ShapeAtom) : Type 0 where
+  pub some : 1 ≤ length atoms
+  pub below : (a : ShapeAtom) → Contains atoms a → IsBelow count a
+  pub used : (k : ℕ) → k < count → (a : ShapeAtom) × Contains atoms a × IsTermOf k a
+
 -- what a search over so many terms is kept as
 pub record IsSearch (atoms : List ShapeAtom) (sources : List Source) (count : ℕ) : Type 0 where
   pub some : 1 ≤ count

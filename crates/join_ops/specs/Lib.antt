@@ -1,2 +1,4 @@
 pub mod Joins
 pub mod Levels
+pub mod Orders
+pub mod Matching

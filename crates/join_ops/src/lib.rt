@@ -1,8 +1,10 @@
-//! The matches of a shape in completed tables, one after another.
+//! The matches of a shape in completed tables, one after another, by a plan.
 #![tactic(auto)]
 
+mod by_levels;
 mod level;
 mod matches;
+mod order;
 mod search;
 mod source;
 

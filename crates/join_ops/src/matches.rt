@@ -1,85 +1,117 @@
 //! The matches of a shape in tables.
-ghost use Rattle.std.specs.Prelude.{◌≡◌, List, length, IfOk};
+ghost use Rattle.std.specs.Prelude.{◌≡◌, ◌<◌, List, All, length, IfOk};
 ghost use Rattle.dl_base.specs.Tables.{TableRow};
 ghost use Rattle.dl_base.specs.declared.element.Elem.{Elem as AnyElem};
-ghost use Rattle.join_ops.specs.Joins.{Advances, AreLeft, AreMatches, Behind, SkipsAlike};
+ghost use Rattle.join_plan.specs.Plans.{IsPlanOf};
+ghost use Rattle.join_ops.specs.Joins.{Behind};
+ghost use Rattle.join_ops.specs.Matching.{AreMatches, GoesTo, HasLeft, SkipsAgreeing};
+ghost use Rattle.join_ops.specs.Orders.{AreLevelsBy, images_of};
 
-use crate::search::{At, resume};
-use crate::source::{Source, sources};
+use crate::by_levels::LevelSearch;
+use crate::order::{atoms_by_level, fixed_by_level, levels_in, order_of};
 use dl_base::{Elem, Items, Tables};
-use query_shape::{Shape, ShapeAtom};
+use join_plan::Plan;
+use query_shape::Shape;
 use std::alloc::{AllocError, Global};
 use std::marker::Model;
 
-/// A search for the matches of a shape, which gives them one after another in rising order of their images. It keeps
-/// one element for each term, and no list of matches.
+/// A search for the matches of a shape by a plan, which gives them one after another. Terms get their elements in the order
+/// in which the paths of the plan come to them. It keeps one element for each term, and no list of matches.
 #[derive(Debug, Drop)]
 pub struct Matches {
-    atoms: Items<ShapeAtom>,
-    sources: Vec<Source>,
+    levels: Items<u32>,
+    search: LevelSearch,
     images: Vec<Elem>,
-    at: At,
 }
 
 impl Model for Matches {
-    ghost use Rattle.std.specs.Prelude.{length, map};
-    ghost use Rattle.join_ops.specs.Joins.{Search};
+    ghost use Rattle.join_ops.specs.Matching.{PlannedSearch};
 
-    ghost Value = { Search };
+    ghost Value = { PlannedSearch };
 
-    ghost use Rattle.join_ops.specs.Levels.{IsSearch, fixed_of, place_at};
+    ghost use Rattle.join_ops.specs.Matching.{IsKept};
 
-    ghost view = { λ m. record { atoms = m.atoms; fixed = map fixed_of m.sources.items; place = place_at m.at m.images.items } };
+    ghost view = { λ m. record { levels = m.levels; search = m.search } };
 
-    ghost invariant = { λ m. IsSearch m.atoms m.sources.items (length m.images.items) };
+    ghost invariant = { λ m. IsKept m.levels m.search m.images.items };
 }
 
 impl Matches {
-    /// The search for the matches that place each fixed term on the individual of its number. In any table it begins
-    /// with all of them left.
-    pub fn new(alloc: Global, s: &Shape, fixed: &[Option<u32>]) -> Result<Matches, AllocError>
-        requires { length fixed.now ≡ length s.now.terms }
-        ensures { IfOk result (λ m. (table : List TableRow) → (left : List (List AnyElem)) × AreLeft table m left × AreMatches table s.now fixed.now left) }
+    /// The search for the matches that place each fixed term on the individual of its number, by the plan. In any table it
+    /// begins with all of them left.
+    pub fn new(
+        alloc: Global,
+        s: &Shape,
+        p: &Plan,
+        fixed: &[Option<u32>],
+    ) -> Result<Matches, AllocError>
+        requires plan { IsPlanOf s.now p.now }
+        requires fixed { length fixed.now ≡ length s.now.terms }
+        ensures left { IfOk result (λ m. (table : List TableRow) → (left : List (List AnyElem)) × HasLeft table m left × AreMatches table s.now fixed.now left) }
+        ensures levels { IfOk result (λ m. AreLevelsBy p.now m.levels) }
+        ensures count { IfOk result (λ m. length m.levels ≡ length s.now.terms) }
     {
-        let atoms = Items::from_slice(alloc, s.atoms())?;
-        let sources = sources(alloc, s.atoms(), fixed)?;
+        let order = order_of(alloc, s.terms(), p.steps())?;
+        let levels = levels_in(alloc, order.as_slice())?;
+        let atoms = atoms_by_level(alloc, p.steps(), levels.items())?;
+        let fixed = fixed_by_level(alloc, order.as_slice(), fixed)?;
+        let search = LevelSearch::new(alloc, atoms, fixed.as_slice())?;
         let images = vec![in alloc; Elem::Named(0); fixed.len()]?;
         Ok(Matches {
-            atoms,
-            sources,
+            levels,
+            search,
             images,
-            at: At::Start,
         })
     }
 
     /// Goes on to the next of the matches that are left in these tables; `false` where there is none. It takes no memory.
     pub fn advance<T: Tables>(&mut self, t: &T) -> bool
-        ensures { (left : List (List AnyElem)) → AreLeft (T.rows t.now) self.old left → Advances (T.rows t.now) left result self.new }
+        ensures goes { (left : List (List AnyElem)) → HasLeft (T.rows t.now) self.old left → GoesTo (T.rows t.now) self.old.search.place left result self.new }
+        ensures levels { self.new.levels ≡ self.old.levels }
     {
-        let found = resume(
-            t,
-            self.atoms.items(),
-            self.sources.as_slice(),
-            self.images.as_mut_slice(),
-            self.at,
-        );
-        self.at = if found { At::Behind } else { At::End };
+        let found = self.search.advance(t);
+        if found {
+            gather(
+                self.levels.items(),
+                self.search.elements(),
+                self.images.as_mut_slice(),
+            );
+        }
         found
     }
 
-    /// Skips those of the matches that are left that have so many first images in common with the match to which the
-    /// search has come. It takes no memory.
-    pub fn skip_alike(&mut self, terms: usize)
-        ensures { (table : List TableRow) (left : List (List AnyElem)) (last : List AnyElem) → AreLeft table self.old left → self.old.place ≡ Behind last
-            → SkipsAlike table left terms last self.new }
+    /// Skips those of the matches that are left that agree with the one to which the search has come in all terms of so many
+    /// first levels. It takes no memory.
+    pub fn skip_agreeing(&mut self, levels: usize)
+        ensures skips { (table : List TableRow) (left : List (List AnyElem)) (last : List AnyElem) → HasLeft table self.old left → self.old.search.place ≡ Behind last
+            → SkipsAgreeing table left levels last self.new }
+        ensures levels { self.new.levels ≡ self.old.levels }
     {
-        self.at = At::Past(terms);
+        self.search.skip_alike(levels);
     }
 
     /// The match that the search has come to, as the images of the terms by their numbers. It takes no memory.
     pub fn images(&self) -> &[Elem]
-        ensures { (images : List AnyElem) → self.now.place ≡ Behind images → result.now ≡ images }
+        ensures { (elements : List AnyElem) → self.now.search.place ≡ Behind elements → result.now ≡ images_of self.now.levels elements }
     {
         self.images.as_slice()
+    }
+
+    /// By number, the level of each term: how many terms get their elements before it. It takes no memory.
+    pub fn levels(&self) -> &[u32]
+        ensures { result.now ≡ self.now.levels }
+    {
+        self.levels.items()
+    }
+}
+
+/// Puts for each term the element of its level among the images.
+fn gather(levels: &[u32], elements: &[Elem], images: &mut [Elem])
+    requires within { All (λ level. level < length elements.now) levels.now }
+    requires room { length images.old ≡ length levels.now }
+    ensures { images.new ≡ images_of levels.now elements.now }
+{
+    for (term, level) in levels.iter().enumerate() {
+        images[term] = elements[*level as usize];
     }
 }

@@ -4,6 +4,7 @@ ghost use Rattle.std.specs.Prelude.{◌≡◌, length};
 use crate::Matches;
 use cq_reader::read_query;
 use dl_base::{Axiom, Elem, Items, Name, Names, Ontology};
+use join_plan::plan;
 use listed_tables::{ListedRow, ListedTables};
 use query_shape::{Shape, shape};
 use std::alloc::{AllocError, Global};
@@ -55,9 +56,9 @@ const MATCHES: [(&[u8], &[Option<u32>], &[u32]); 12] = [
     (b"q() :- A(?x), B(?x)", &[None], &[]),
 ];
 
-/// A query, the numbers of its fixed terms, so many terms, and the images of its matches where behind each one those that
-/// agree with it on so many first terms are skipped.
-const SKIPS: [(&[u8], &[Option<u32>], usize, &[u32]); 6] = [
+/// A query, the numbers of its fixed terms, so many levels, and the images of its matches where behind each one those that
+/// agree with it on so many first levels are skipped.
+const SKIPS: [(&[u8], &[Option<u32>], usize, &[u32]); 7] = [
     (b"q() :- r(?x, ?y)", &[None, None], 0, &[1, 1]),
     (
         b"q() :- r(?x, ?y)",
@@ -76,6 +77,12 @@ const SKIPS: [(&[u8], &[Option<u32>], usize, &[u32]); 6] = [
         b"q() :- A(?x), r(?x, ?y), s(?x, ?z)",
         &[None, None, None],
         2,
+        &[2, 3, 5, 2, 3, 6],
+    ),
+    (
+        b"q() :- A(?x), r(?x, ?y), s(?x, ?z)",
+        &[None, None, None],
+        1,
         &[2, 3, 5],
     ),
     (b"q() :- r(c, ?x)", &[Some(1), None], 1, &[1, 1]),
@@ -123,8 +130,8 @@ fn number(e: &Elem) -> u32 {
     }
 }
 
-/// The images of up to 20 matches, one match behind another. Where `skip` is given, those that agree with a match on so
-/// many first terms are skipped.
+/// The images of up to 20 matches in rising order, one match behind another. Where `skip` is given, those that agree with
+/// a match on so many first levels are skipped.
 fn found(
     alloc: Global,
     t: &ListedTables,
@@ -134,18 +141,30 @@ fn found(
 ) -> Result<Vec<u32>, AllocError>
     requires { length fixed.now ≡ length s.now.terms }
 {
-    let mut matches = Matches::new(alloc, s, fixed)?;
-    let mut numbers = Vec::new(alloc);
+    let p = plan(alloc, s, &[], t)?;
+    let mut matches = Matches::new(alloc, s, &p, fixed)?;
+    let mut lists = Vec::new(alloc);
     for _ in 0..20 {
         if !matches.advance(t) {
-            return Ok(numbers);
+            break;
         }
-        for e in matches.images() {
-            numbers.push(number(e))?;
+        lists.push(numbers(alloc, matches.images())?)?;
+        if let Some(levels) = skip {
+            matches.skip_agreeing(levels);
         }
-        if let Some(terms) = skip {
-            matches.skip_alike(terms);
-        }
+    }
+    lists.sort()?;
+    let mut flat = Vec::new(alloc);
+    for list in &lists {
+        flat.extend_from_slice(list.as_slice())?;
+    }
+    Ok(flat)
+}
+
+fn numbers(alloc: Global, images: &[Elem]) -> Result<Vec<u32>, AllocError> {
+    let mut numbers = Vec::with_capacity(alloc, images.len())?;
+    for e in images {
+        numbers.push(number(e))?;
     }
     Ok(numbers)
 }
@@ -165,8 +184,8 @@ fn assert_found(
     wanted: &[u32],
 ) -> Result<(), AllocError> {
     assert!(rt; fixed.len() == s.terms());
-    let numbers = found(alloc, t, s, fixed, skip)?;
-    assert_eq!(rt; numbers.as_slice(), wanted);
+    let images = found(alloc, t, s, fixed, skip)?;
+    assert_eq!(rt; images.as_slice(), wanted);
     Ok(())
 }
 

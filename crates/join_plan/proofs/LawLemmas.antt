@@ -26,18 +26,18 @@ use Rattle.join_plan.proofs.PlanLemmas.{ends}
 -- ---- each atom once
 
 -- a number is one of so many
-numbered : (n k : ℕ) → k < n → Contains (range_with_len 0 n) k
+pub numbered : (n k : ℕ) → k < n → Contains (range_with_len 0 n) k
 numbered n k within =
     let here : get_or (range_with_len 0 n) k k ≡ 0 + k = get_or-range_with_len 0 n k k within in
     (k, omega (arith, within, length-range_with_len 0 n), omega (arith, here))
 
-within_numbers : (n k : ℕ) → Contains (range_with_len 0 n) k → k < n
+pub within_numbers : (n k : ℕ) → Contains (range_with_len 0 n) k → k < n
 within_numbers n k c =
     let below : c.0 < n = omega (arith, c.1, length-range_with_len 0 n) in
     let here : get_or (range_with_len 0 n) c.0 k ≡ 0 + c.0 = get_or-range_with_len 0 n c.0 k below in
     omega (arith, here, c.2)
 
-numbers_distinct : (n : ℕ) → AllPairs (λ (x : ℕ) (y : ℕ). x ≢ y) (range_with_len 0 n)
+pub numbers_distinct : (n : ℕ) → AllPairs (λ (x : ℕ) (y : ℕ). x ≢ y) (range_with_len 0 n)
 numbers_distinct n i j d lt below e =
     let within : j < n = omega (arith, below, length-range_with_len 0 n) in
     let at_i : get_or (range_with_len 0 n) i d ≡ 0 + i = get_or-range_with_len 0 n i d (omega arith) in

@@ -1,5 +1,5 @@
-//! Which terms are known, as a mark for each.
-ghost use Rattle.std.specs.Prelude.{◌≡◌, ◌⊎◌, ◌↔◌, ℕ, List, IfOk, IsTrue, length};
+//! Which terms are known, and which are to have an element early, as a mark for each.
+ghost use Rattle.std.specs.Prelude.{◌≡◌, ◌⊎◌, ◌↔◌, ◌<◌, ℕ, List, All, IfOk, IsTrue, length};
 ghost use Rattle.dl_base.specs.declared.query.Term.TheVariants as term;
 ghost use Rattle.query_shape.specs.Shape.{IsBelow, IsTermOf};
 ghost use Rattle.join_plan.specs.Plans.{IsNamed};
@@ -19,6 +19,18 @@ pub(crate) fn marked_names(alloc: Global, s: &Shape) -> Result<Vec<bool>, AllocE
         known.push(is_named(s.term(number as u32)))?;
     }
     Ok(known)
+}
+
+/// A mark for each of so many terms, which is set where the term is among these.
+pub(crate) fn marked(alloc: Global, terms: usize, numbers: &[u32]) -> Result<Vec<bool>, AllocError>
+    requires { All (λ number. number < terms) numbers.now }
+    ensures { IfOk result (λ marks. length marks.items ≡ terms) }
+{
+    let mut marks = vec![in alloc; false; terms]?;
+    for number in numbers {
+        marks[*number as usize] = true;
+    }
+    Ok(marks)
 }
 
 /// Whether the term is a name.

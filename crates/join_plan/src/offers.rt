@@ -41,6 +41,21 @@ pub(crate) struct Offer {
     pub path: AccessPath,
     /// What that costs.
     pub cost: Cost,
+    /// Whether the first term that gets an element by it is to have it early. No contract sees this.
+    pub early: bool,
+}
+
+impl Offer {
+    /// Whether this comes before the other: it costs less, or as much, and gives an element to a term that is to have it early.
+    fn is_better(self, other: Offer) -> bool
+        ensures better { OnTrue result (IsNoDearer self.cost other.cost) }
+        ensures not_better { OnFalse result (IsNoDearer other.cost self.cost) }
+    {
+        if self.cost.is_less(other.cost) {
+            return true;
+        }
+        !other.cost.is_less(self.cost) && self.early && !other.early
+    }
 }
 
 /// One of the candidates, by its index, and how it is gone through.
@@ -52,28 +67,31 @@ pub(crate) struct Choice {
     pub offer: Offer,
 }
 
-/// The cheapest candidate, where these terms are known.
-pub(crate) fn cheapest(left: &[Candidate], known: &[bool]) -> Choice
+/// The cheapest candidate, where these terms are known, and of those that cost as much one that gives an element to a term
+/// that is to have it early.
+pub(crate) fn cheapest(left: &[Candidate], known: &[bool], early: &[bool]) -> Choice
     requires some { 0 < length left.now }
     requires below { All (λ c. IsBelow (length known.now) c.atom) left.now }
+    requires early { length early.now ≡ length known.now }
     ensures { IsCheapest left.now (length left.now) known.now result }
 {
     let mut best = Choice {
         index: 0,
-        offer: offer_for(&left[0], known),
+        offer: offer_for(&left[0], known, early),
     };
     for index in 1..left.len() {
-        let offer = offer_for(&left[index], known);
-        if offer.cost.is_less(best.offer.cost) {
+        let offer = offer_for(&left[index], known, early);
+        if offer.is_better(best.offer) {
             best = Choice { index, offer };
         }
     }
     best
 }
 
-/// The way to go through the candidate, where these terms are known.
-fn offer_for(candidate: &Candidate, known: &[bool]) -> Offer
-    requires { IsBelow (length known.now) candidate.now.atom }
+/// The way to go through the candidate, where these terms are known and those are to have an element early.
+fn offer_for(candidate: &Candidate, known: &[bool], early: &[bool]) -> Offer
+    requires below { IsBelow (length known.now) candidate.now.atom }
+    requires early { length early.now ≡ length known.now }
     ensures { IsOfferFor known.now candidate.now result }
 {
     let Candidate { first, last, .. } = *candidate;
@@ -81,18 +99,23 @@ fn offer_for(candidate: &Candidate, known: &[bool]) -> Offer
         ShapeAtom::Concept { concept, term } if known[term as usize] => Offer {
             path: AccessPath::ProbeConcept { concept, term },
             cost: Cost::Probe,
+            early: false,
         },
         ShapeAtom::Concept { concept, term } => Offer {
             path: AccessPath::ScanConcept { concept, term },
             cost: Cost::Scan(first),
+            early: early[term as usize],
         },
         ShapeAtom::Role { role, from, to } => {
             match (known[from as usize], known[to as usize]) {
                 (true, true) => check(role, from, to),
-                (true, false) => walk(role, from, to, last),
-                (false, true) => walk(role.inverted(), to, from, first),
-                (false, false) if first <= last => scan(role, from, to, first),
-                (false, false) => scan(role.inverted(), to, from, last),
+                (true, false) => walk(role, from, to, last, early),
+                (false, true) => walk(role.inverted(), to, from, first, early),
+                (false, false) if first < last => scan(role, from, to, first, early),
+                (false, false) if first > last || is_later(from, to, early) => {
+                    scan(role.inverted(), to, from, last, early)
+                }
+                (false, false) => scan(role, from, to, first, early),
             }
         }
     }
@@ -107,11 +130,21 @@ fn check(role: Role, from: u32, to: u32) -> Offer
     Offer {
         path,
         cost: Cost::Check,
+        early: false,
     }
 }
 
+/// Whether the other term is to have its element early, and this one isn't.
+fn is_later(term: u32, other: u32, early: &[bool]) -> bool
+    requires term { term < length early.now }
+    requires other { other < length early.now }
+{
+    early[other as usize] && !early[term as usize]
+}
+
 /// A walk that leads to so many elements at most.
-fn walk(role: Role, from: u32, to: u32, targets: u64) -> Offer
+fn walk(role: Role, from: u32, to: u32, targets: u64, early: &[bool]) -> Offer
+    requires { to < length early.now }
     ensures path { result.path ≡ path.WalkEdges role from to }
     ensures cost { result.cost ≡ cost.Walk targets }
 {
@@ -119,11 +152,13 @@ fn walk(role: Role, from: u32, to: u32, targets: u64) -> Offer
     Offer {
         path,
         cost: Cost::Walk(targets),
+        early: early[to as usize],
     }
 }
 
 /// A scan of the role's elements, of which there are so many.
-fn scan(role: Role, from: u32, to: u32, sources: u64) -> Offer
+fn scan(role: Role, from: u32, to: u32, sources: u64, early: &[bool]) -> Offer
+    requires { from < length early.now }
     ensures path { result.path ≡ path.ScanRole role from to }
     ensures cost { result.cost ≡ cost.Scan sources }
 {
@@ -131,5 +166,6 @@ fn scan(role: Role, from: u32, to: u32, sources: u64) -> Offer
     Offer {
         path,
         cost: Cost::Scan(sources),
+        early: early[from as usize],
     }
 }

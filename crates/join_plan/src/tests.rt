@@ -1,4 +1,6 @@
 //! Plans beside the orders that a small table has by hand.
+ghost use Rattle.std.specs.Prelude.{◌<◌, All, length};
+
 use crate::{AccessPath, Step, plan};
 use cq_reader::read_query;
 use dl_base::{Axiom, Elem, Items, Name, Names, Ontology};
@@ -82,6 +84,26 @@ const ORDERS: [(&[u8], &[Told]); 11] = [
     ),
 ];
 
+/// A query, a term that is to have an element early, and its atoms in the order in which they have their turns.
+const EARLY: [(&[u8], u32, &[Told]); 4] = [
+    (
+        b"q() :- A(?x), A(?y)",
+        1,
+        &[(1, Turn::Scan, 1, 1), (0, Turn::Scan, 0, 0)],
+    ),
+    (
+        b"q() :- r(c, ?x), r(c, ?y)",
+        2,
+        &[(1, Turn::Walk, 0, 2), (0, Turn::Walk, 0, 1)],
+    ),
+    (
+        b"q() :- A(?x), B(?y)",
+        0,
+        &[(1, Turn::Scan, 1, 1), (0, Turn::Scan, 0, 0)],
+    ),
+    (b"q() :- s(?x, ?y)", 0, &[(0, Turn::Scan, 1, 0)]),
+];
+
 fn tables(alloc: Global) -> Result<ListedTables, AllocError> {
     let mut rows = Vec::new(alloc);
     for (concept, individual) in CONCEPTS {
@@ -131,9 +153,11 @@ fn told(step: &Step) -> Told {
     }
 }
 
-fn order(alloc: Global, s: &Shape, t: &ListedTables) -> Result<Vec<Told>, AllocError> {
+fn order(alloc: Global, s: &Shape, early: &[u32], t: &ListedTables) -> Result<Vec<Told>, AllocError>
+    requires { All (λ number. number < length s.now.terms) early.now }
+{
     let mut order = Vec::new(alloc);
-    for step in plan(alloc, s, t)?.steps() {
+    for step in plan(alloc, s, early, t)?.steps() {
         order.push(told(step))?;
     }
     Ok(order)
@@ -143,10 +167,17 @@ fn assert_order(
     rt: &impl Abort,
     alloc: Global,
     s: &Shape,
+    early: Option<u32>,
     t: &ListedTables,
     wanted: &[Told],
 ) -> Result<(), AllocError> {
-    let found = order(alloc, s, t)?;
+    let found = match early {
+        Some(number) => {
+            assert!(rt; (number as usize) < s.terms());
+            order(alloc, s, &[number], t)?
+        }
+        None => order(alloc, s, &[], t)?,
+    };
     assert_eq!(rt; found.as_slice(), wanted);
     Ok(())
 }
@@ -157,7 +188,18 @@ fn what_is_cheapest_comes_first(rt: HostRuntime) -> Result<(), Fail> {
     let o = ontology(rt.alloc())?;
     for (text, wanted) in ORDERS {
         let s = shape_of(rt.alloc(), &o, text)?;
-        assert_order(&rt, rt.alloc(), &s, &t, wanted)?;
+        assert_order(&rt, rt.alloc(), &s, None, &t, wanted)?;
+    }
+    Ok(())
+}
+
+#[test]
+fn what_is_to_come_early_breaks_ties(rt: HostRuntime) -> Result<(), Fail> {
+    let t = tables(rt.alloc())?;
+    let o = ontology(rt.alloc())?;
+    for (text, early, wanted) in EARLY {
+        let s = shape_of(rt.alloc(), &o, text)?;
+        assert_order(&rt, rt.alloc(), &s, Some(early), &t, wanted)?;
     }
     Ok(())
 }

@@ -8,6 +8,12 @@ variable_numbers-requires g c =
 
 pub invariant_of-result : goal.invariant_of-result
 invariant_of-result g c = record {
-  layout = layout_of c.args.o.now c.args.q.now c.in_ok-shape.shape c.answers.ensures.query c.in_ok-shape.ensures.ok;
-  within = numbers_within c.in_ok-shape.shape.terms c.answers.result.now c.in_ok-answers.answers c.in_ok-answers.ensures;
+  bound = record {
+    layout = layout_of c.args.o.now c.args.q.now c.in_ok-shape.shape c.answers.ensures.query c.in_ok-shape.ensures.ok;
+    within = numbers_within c.in_ok-shape.shape.terms c.answers.result.now c.in_ok-answers.answers c.in_ok-answers.ensures;
+  };
+  plan = c.in_ok-plan.ensures.plan;
 }
+
+pub plan-requires : goal.plan-requires
+plan-requires g c = rw c.items.ensures (numbers_within c.in_ok-shape.shape.terms c.answers.result.now c.in_ok-answers.answers c.in_ok-answers.ensures)

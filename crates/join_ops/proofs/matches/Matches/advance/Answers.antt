@@ -1,18 +1,18 @@
-use Rattle.std.proofs.Common.{ap, inl, inr, map, sym, subst, length, ◌≡◌, ◌∙◌}
-use Rattle.std.proofs.lemmas.List.{with_items_is}
-use Rattle.join_ops.specs.Joins.{Search, AreLeft}
-use Rattle.join_ops.specs.Levels.{fixed_of}
-use Rattle.join_ops.proofs.LeftLemmas.{advances}
+use Rattle.std.proofs.Common.{sym, subst}
+use Rattle.join_ops.specs.Matching.{GoesTo, HasLeft, PlannedSearch}
+use Rattle.join_ops.proofs.PlannedLemmas.{goes_to}
 use Rattle.join_ops.proofs.matches.Matches.advance.Goals as goal
-use Rattle.join_ops.proofs.matches.Matches.advance.Goals.{then-found, else-found}
 
-pub returns : goal.returns
-returns g c = λ left are.
+pub returns-then-found-clause-goes : goal.returns-then-found-clause-goes
+returns-then-found-clause-goes g c = λ left has.
     let rows = g.T.Tables.rows c.args.t.now in
-    let own = c.self.inside in
-    let here = subst (λ (s : Search). AreLeft rows s left) (sym c.self.view_is) are in
-    let long : length c.resume-found.new.images ≡ own.images.len = c.resume-found.auto.images ∙ ap length c.as_mut_slice.ensures.value ∙ sym own.images.ok.0 in
-    rw (with_items_is own.images c.resume-found.new.images long)
-    (advances rows own.atoms (map fixed_of own.sources.items) own.at c.if-found.self own.images.items c.resume-found.new.images left c.resume-found.result here
-    (rw (c.items.ensures, c.as_slice.ensures.value, c.as_mut_slice.ensures.value) at c.resume-found.ensures)
-    (elim c.if-found.branch [ then-found w ↦ inl (w.if-found.true, w.self-is) | else-found w ↦ inr (w.if-found.false, w.self-is) ]))
+    let m : PlannedSearch = record { levels = c.self.inside.levels; search = c.self.inside.search } in
+    subst (λ (p : PlannedSearch). GoesTo rows p.search.place left c.advance-found.result (record { levels = c.self.inside.levels; search = c.advance-found.new.self })) c.self.view_is
+    (goes_to rows m left (subst (λ (p : PlannedSearch). HasLeft rows p left) (sym c.self.view_is) has) c.advance-found.new.self c.advance-found.ensures.fixed c.advance-found.result c.advance-found.ensures.goes)
+
+pub returns-else-found-clause-goes : goal.returns-else-found-clause-goes
+returns-else-found-clause-goes g c = λ left has.
+    let rows = g.T.Tables.rows c.args.t.now in
+    let m : PlannedSearch = record { levels = c.self.inside.levels; search = c.self.inside.search } in
+    subst (λ (p : PlannedSearch). GoesTo rows p.search.place left c.advance-found.result (record { levels = c.self.inside.levels; search = c.advance-found.new.self })) c.self.view_is
+    (goes_to rows m left (subst (λ (p : PlannedSearch). HasLeft rows p left) (sym c.self.view_is) has) c.advance-found.new.self c.advance-found.ensures.fixed c.advance-found.result c.advance-found.ensures.goes)

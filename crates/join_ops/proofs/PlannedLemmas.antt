@@ -1,0 +1,143 @@
+-- What a search by a plan has left once it went on.
+use Rattle.std.proofs.Common.{◌≡◌, ◌≢◌, ◌↔◌, ◌<◌, ◌⊎◌, inl, inr, ℕ, zero, suc, Bool, true, false, Option, List, [], ◌∷◌, Some, length, map, min, take, slice_get, AllPairs, Contains, refl, sym, ap, ◌∙◌, subst, arith}
+use Rattle.std.specs.Cmp.Lexicographic.{slice_cmp}
+use Rattle.std.specs.declared.cmp.Ordering.{Ordering}
+use Rattle.std.specs.declared.cmp.Ordering.TheVariants.{Less, Equal, Greater}
+use Rattle.std.proofs.lemmas.Cmp.{tied_itself}
+use Rattle.std.proofs.lemmas.List.{length-map, length-take}
+use Rattle.std.proofs.lemmas.Option.{slice_get_within}
+use Rattle.dl_base.specs.Tables.{TableRow, elem_cmp}
+use Rattle.dl_base.specs.declared.element.Elem.{Elem}
+use Rattle.dl_base.proofs.ElemLemmas.{elem_same}
+use Rattle.dl_base.proofs.PlaceLemmas.{map_contains, map_from, place_of}
+use Rattle.dl_base.proofs.RisingLemmas.{contains_first, slice_same}
+use Rattle.join_ops.specs.Joins.{SearchPlace, Search, Behind, AreLeft, Advances, IsFound, IsLast, IsNext, SkipsAlike}
+use Rattle.query_shape.specs.Shape.{Layout, IsLayout}
+use Rattle.join_plan.specs.Plans.{IsPlanOf}
+use Rattle.join_plan.specs.declared.steps.Step.{Step}
+use Rattle.join_ops.specs.Matching.{AreMatches, GoesTo, HasLeft, PlannedSearch, SkipsAgreeing}
+use Rattle.join_ops.specs.Orders.{AgreeUpTo, AreFirsts, AreLevelsIn, fixed_in, images_of, plan_terms}
+use Rattle.join_ops.proofs.ImageLemmas.{image_at, leveled_atoms, levels_cover, matches_of, same_elements}
+use Rattle.join_ops.proofs.LeftLemmas.{images_total}
+
+-- what is left to another search over the same levels
+still_left : (table : List TableRow) (m : PlannedSearch) (left : List (List Elem)) → HasLeft table m left → (search : Search) → search.fixed ≡ m.search.fixed → (rest : List (List Elem)) → AreLeft table search rest
+    → HasLeft table (record { levels = m.levels; search = search }) (map (images_of m.levels) rest)
+still_left table m left has search same rest goes_on = record {
+  by_level = rest;
+  are = refl;
+  goes_on = goes_on;
+  count = has.count ∙ ap length (sym same);
+  covers = λ level below. has.covers level (subst (λ (l : List (Option ℕ)). level < length l) same below);
+}
+
+pub goes_to : (table : List TableRow) (m : PlannedSearch) (left : List (List Elem)) → HasLeft table m left → (search : Search) → search.fixed ≡ m.search.fixed → (found : Bool) → ((rest : List (List Elem)) → AreLeft table m.search rest → Advances table rest found search)
+    → GoesTo table m.search.place left found (record { levels = m.levels; search = search })
+goes_to table m left has search same true advances =
+    let next : IsNext table has.by_level search = advances has.by_level has.goes_on in
+    record {
+      elements = next.images;
+      others = map (images_of m.levels) next.others;
+      first = has.are ∙ ap (map (images_of m.levels)) next.first;
+      behind = ((has.goes_on.each next.images).0 (subst (λ (l : List (List Elem)). Contains l next.images) (sym next.first) (contains_first next.images next.others))).1;
+      stands = next.stands;
+      goes_on = still_left table m left has search same next.others next.goes_on;
+    }
+goes_to table m left has search same false advances =
+    let none = advances has.by_level has.goes_on in
+    (has.are ∙ ap (map (images_of m.levels)) none.0, still_left table m left has search same [] none.1)
+
+-- ---- what agrees
+
+same_or_not : (xs ys : List Elem) → (xs ≡ ys) ⊎ (xs ≢ ys)
+same_or_not xs ys = by (slice_cmp elem_cmp xs ys) refl
+  where
+    tied : xs ≡ ys → slice_cmp elem_cmp xs ys ≡ Equal
+    tied same = subst (λ (l : List Elem). slice_cmp elem_cmp xs l ≡ Equal) same (tied_itself images_total xs)
+
+    by : (r : Ordering) → slice_cmp elem_cmp xs ys ≡ r → (xs ≡ ys) ⊎ (xs ≢ ys)
+    by Less e = inr (λ same. let both : Less ≡ Equal = sym e ∙ tied same in cc)
+    by Equal e = inl (slice_same elem_cmp elem_same xs ys e)
+    by Greater e = inr (λ same. let both : Greater ≡ Equal = sym e ∙ tied same in cc)
+
+get_taken : (n k : ℕ) (xs : List Elem) → k < n → slice_get (take n xs) k ≡ slice_get xs k
+get_taken zero k xs below = absurd (omega (arith, below))
+get_taken (suc n) k [] below = refl
+get_taken (suc n) zero (x ∷ xs) below = refl
+get_taken (suc n) (suc k) (x ∷ xs) below = get_taken n k xs (omega (arith, below))
+
+taken_within : (n k : ℕ) (xs : List Elem) (x : Elem) → slice_get (take n xs) k ≡ Some x → k < n
+taken_within n k xs x at = let within = slice_get_within (take n xs) k x at in omega (arith, within, length-take n xs)
+
+module _ (levels : List ℕ) (count : ℕ) (within : (term level : ℕ) → slice_get levels term ≡ Some level → level < count) (covers : (level : ℕ) → level < count → Contains levels level) where
+  -- the same elements on the first levels make the images agree
+  agree_of : (n : ℕ) (xs ys : List Elem) → length xs ≡ count → length ys ≡ count → take n xs ≡ take n ys → AgreeUpTo levels n (images_of levels xs) (images_of levels ys)
+  agree_of n xs ys long_xs long_ys same term level at below =
+      let inside = within term level at in
+      image_at levels xs term level at (omega (arith, inside, long_xs)) ∙ sym (get_taken n level xs below) ∙ ap (λ (l : List Elem). slice_get l level) same ∙ get_taken n level ys below ∙ sym (image_at levels ys term level at (omega (arith, inside, long_ys)))
+
+  of_agree : (n : ℕ) (xs ys : List Elem) → length xs ≡ count → length ys ≡ count → AgreeUpTo levels n (images_of levels xs) (images_of levels ys) → take n xs ≡ take n ys
+  of_agree n xs ys long_xs long_ys agree = same_elements (take n xs) (take n ys) (length-take n xs ∙ ap (min n) (long_xs ∙ sym long_ys) ∙ sym (length-take n ys)) each
+    where
+      each : (k : ℕ) (x : Elem) → slice_get (take n xs) k ≡ Some x → slice_get (take n ys) k ≡ Some x
+      each k x at =
+          let below : k < n = taken_within n k xs x at in
+          let here : slice_get xs k ≡ Some x = sym (get_taken n k xs below) ∙ at in
+          let inside : k < count = (let i = slice_get_within xs k x here in omega (arith, i, long_xs)) in
+          let term = covers k inside in
+          let on : slice_get levels term.0 ≡ Some k = place_of levels k term in
+          get_taken n k ys below ∙ sym (image_at levels ys term.0 k on (omega (arith, inside, long_ys))) ∙ sym (agree term.0 k on below) ∙ image_at levels xs term.0 k on (omega (arith, inside, long_xs)) ∙ here
+
+pub skips_agreeing : (table : List TableRow) (m : PlannedSearch) (left : List (List Elem)) → HasLeft table m left → ((term level : ℕ) → slice_get m.levels term ≡ Some level → level < length m.search.fixed)
+    → (search : Search) → search.fixed ≡ m.search.fixed → (n : ℕ) (last : List Elem) → m.search.place ≡ Behind last
+    → ((rest : List (List Elem)) → AreLeft table m.search rest → SkipsAlike table rest n last search) → SkipsAgreeing table left n last (record { levels = m.levels; search = search })
+skips_agreeing table m left has within search same n last stands skips =
+    record {
+      others = map (images_of m.levels) done.others;
+      stands = done.stands;
+      goes_on = still_left table m left has search same done.others done.goes_on;
+      kept = λ images c.
+          let at = map_from (images_of m.levels) done.others images c in
+          let was = (done.each at.0).0 at.1 in (
+            subst (λ (l : List (List Elem)). Contains l images) (sym has.are) (subst (Contains (map (images_of m.levels) has.by_level)) (sym at.2) (map_contains (images_of m.levels) has.by_level at.0 was.0)),
+            λ agree. was.1 (of_agree m.levels (length m.search.fixed) within has.covers n at.0 last (long at.0 was.0) last_long (subst (λ (l : List Elem). AgreeUpTo m.levels n l (images_of m.levels last)) at.2 agree)),
+          );
+      out = λ images c.
+          let at = map_from (images_of m.levels) has.by_level images (subst (λ (l : List (List Elem)). Contains l images) has.are c) in
+          elim (same_or_not (take n at.0) (take n last)) [
+            | inl alike ↦ inr (subst (λ (l : List Elem). AgreeUpTo m.levels n l (images_of m.levels last)) (sym at.2) (agree_of m.levels (length m.search.fixed) within has.covers n at.0 last (long at.0 at.1) last_long alike))
+            | inr apart ↦ inl (subst (Contains (map (images_of m.levels) done.others)) (sym at.2) (map_contains (images_of m.levels) done.others at.0 ((done.each at.0).1 (at.1, apart))))
+          ];
+    }
+  where
+    done : SkipsAlike table has.by_level n last search
+    done = skips has.by_level has.goes_on
+
+    long : (xs : List Elem) → Contains has.by_level xs → length xs ≡ length m.search.fixed
+    long xs c = ((has.goes_on.each xs).0 c).0.count
+
+    last_long : length last ≡ length m.search.fixed
+    last_long = of m.search.place stands has.goes_on.last
+      where
+        of : (place : SearchPlace) → place ≡ Behind last → IsLast table m.search.atoms m.search.fixed place → length last ≡ length m.search.fixed
+        of place is was = (subst (IsLast table m.search.atoms m.search.fixed) is was).count
+
+-- a search by level begins with the images of all matches left
+pub begins : (s : Layout) (steps : List Step) → IsLayout s → IsPlanOf s steps → (order levels : List ℕ) → AreFirsts (plan_terms steps) order → AreLevelsIn order levels
+    → (table : List TableRow) (fixed : List (Option ℕ)) → length fixed ≡ length s.terms → (search : Search) → search.fixed ≡ fixed_in order fixed
+    → (left : List (List Elem)) × AreLeft table search left × AllPairs (λ x y. x ≢ y) left × ((elements : List Elem) → Contains left elements ↔ IsFound table (leveled_atoms levels steps) (fixed_in order fixed) elements)
+    → (left : List (List Elem)) × HasLeft table (record { levels = levels; search = search }) left × AreMatches table s fixed left
+begins s steps layout plan order levels firsts are table fixed long search same (all, goes_on, apart, each) = (
+  map (images_of levels) all,
+  record {
+    by_level = all;
+    are = refl;
+    goes_on = goes_on;
+    count = are.count ∙ sym whole;
+    covers = λ level below. levels_cover order levels are level (subst (λ (n : ℕ). level < n) whole below);
+  },
+  matches_of s steps layout plan order levels firsts are table fixed long all apart each,
+)
+  where
+    whole : length search.fixed ≡ length order
+    whole = ap length same ∙ length-map order _

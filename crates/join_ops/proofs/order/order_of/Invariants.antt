@@ -1,0 +1,6 @@
+use Rattle.std.proofs.Common.{take}
+use Rattle.join_ops.specs.Orders.{AreFirsts, plan_terms}
+use Rattle.join_ops.proofs.order.order_of.Given as goal
+
+abbrev pub invariant-loop-step : goal.invariant-loop-step
+invariant-loop-step l = AreFirsts (plan_terms (take l.step-index l.steps)) l.order.items
