@@ -1,0 +1,14 @@
+pub mod OrientedAtomLemmas
+pub mod StepLemmas
+pub mod LoopLemmas
+pub mod Counting
+pub mod TreeLemmas
+pub mod EntryLemmas
+pub mod Turned
+pub mod Nested
+pub mod Placed
+pub mod Reached
+pub mod Classed
+pub mod PassLemmas
+pub mod LawLemmas
+pub mod Examples

@@ -1,0 +1,3 @@
+pub mod TreeWitness
+pub mod Trees
+pub mod TreeLaws
