@@ -1,5 +1,4 @@
 //! Tree witnesses of small queries, and images that pass by them or don't.
-ghost use Rattle.std.specs.Prelude.{◌≡◌, length};
 
 use crate::TreeWitnesses;
 use cq_reader::read_query;
