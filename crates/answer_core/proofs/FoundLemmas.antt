@@ -164,9 +164,3 @@ no_answers o rows names generation table q b bound query completed unknown = rec
 
     unlifted : (key : List (List ℕ)) → IsKeyOf o rows names generation table q key → ⊥
     unlifted key k = unknown (λ a there. by a (numbered names (k.place (term.Named a)) a (k.names_are a (occur_from bound.shape.terms_are (term.Named a) there))))
-
--- the same of what is equal
-pub found_as : (P : List ℕ → List (Option ℕ) → ℕ → Type 0) (places others : List ℕ) (fixed of_terms : List (Option ℕ)) (count most : ℕ)
-    → places ≡ others → fixed ≡ of_terms → count ≡ most → P places fixed count → P others of_terms most
-found_as P places others fixed of_terms count most p f c h =
-    subst (λ (x : List ℕ). P x of_terms most) p (subst (λ (x : List (Option ℕ)). P places x most) f (subst (λ (x : ℕ). P places fixed x) c h))

@@ -8,6 +8,7 @@ use Rattle.dl_base.specs.declared.query.Term.TheVariants as term
 use Rattle.query_shape.specs.Shape.{Layout, IsLayout, IsShapeOf}
 use Rattle.join_plan.specs.Plans.{IsPlanOf}
 use Rattle.join_plan.specs.declared.steps.Step.{Step}
+use Rattle.tree_witness.specs.Trees.{AreTreesOf, Trees}
 
 -- the shape, and the numbers of the terms at the answer places
 pub record BoundQuery : Type 0 where
@@ -19,10 +20,11 @@ pub record IsBound (b : BoundQuery) : Type 0 where
   pub layout : IsLayout b.shape
   pub within : All (λ n. n < length b.shape.terms) b.answers
 
--- such a query with a plan of its shape
-pub record IsPlanned (b : BoundQuery) (steps : List Step) : Type 0 where
+-- such a query with a plan and with the tree witnesses of its shape
+pub record IsPlanned (b : BoundQuery) (steps : List Step) (trees : Trees) : Type 0 where
   pub bound : IsBound b
   pub plan : IsPlanOf b.shape steps
+  pub trees_are : AreTreesOf b.shape trees
 
 -- the shape is the query's, and at each answer place is the number of the variable there
 pub record IsBoundTo (o : Terminology) (q : Question) (b : BoundQuery) : Type 0 where

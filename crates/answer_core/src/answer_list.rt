@@ -7,8 +7,8 @@ ghost use Rattle.dl_base.specs.Answers.{AreAnswers};
 ghost use Rattle.dl_base.specs.Completion.{AreCompleted};
 ghost use Rattle.dl_base.specs.declared.concept.Role.{Role as AnyRole};
 ghost use Rattle.dl_base.specs.declared.row.NamedRow.{NamedRow as AnyRow};
-ghost use Rattle.query_shape.specs.Shape.{IsLayout};
-ghost use Rattle.join_plan.specs.Plans.{IsPlanOf};
+ghost use Rattle.query_shape.specs.Shape.{IsLayout, Layout};
+ghost use Rattle.tree_witness.specs.Trees.{AreTreesOf};
 ghost use Rattle.answer_core.specs.Binding.{IsBoundTo};
 ghost use Rattle.answer_core.specs.Found.{AddsLifted, AllStand, AreWithin, HasKeyOf, IsFoundKey, IsOf, IsTableOf};
 
@@ -17,10 +17,8 @@ use crate::fixed::{fixed_numbers, has_names};
 use crate::number_keys::NumberKeys;
 use dl_base::{Elem, Items, Keys, NameBook, Tables};
 use join_ops::Matches;
-use join_plan::Plan;
-use match_filter::lifts;
-use query_shape::Shape;
 use std::alloc::{AllocError, Global};
+use tree_witness::TreeWitnesses;
 
 /// The certain answers, in order, each once: the keys of the matches in completed tables that lift, have individuals of
 /// the book at the answer places, and have each name of the query on its own individual.
@@ -41,48 +39,36 @@ pub fn answers<T: Tables>(
         return Ok(Items::new(alloc));
     }
     let fixed = fixed_numbers(alloc, individuals, &b.shape)?;
-    let found = found_keys(
-        alloc,
-        t,
-        &b.shape,
-        &b.plan,
-        b.answers.items(),
-        fixed.as_slice(),
-        individuals.len(),
-    )?;
+    let found = found_keys(alloc, t, b, fixed.as_slice(), individuals.len())?;
     found.spelled(alloc, individuals)
 }
 
-/// The keys by number, at the places, of the matches that lift and place the fixed terms so, over individuals whose numbers
-/// are below `count`. They are sought by the plan.
+/// The keys by number, at the answer places, of the matches that lift and place the fixed terms so, over individuals whose
+/// numbers are below `count`. They are sought by the plan.
 fn found_keys<T: Tables>(
     alloc: Global,
     t: &T,
-    shape: &Shape,
-    plan: &Plan,
-    places: &[u32],
+    b: &Bound,
     fixed: &[Option<u32>],
     count: usize,
 ) -> Result<NumberKeys, AllocError>
-    requires layout { IsLayout shape.now }
-    requires plan { IsPlanOf shape.now plan.now }
-    requires places { All (λ p. p < length shape.now.terms) places.now }
-    requires fixed { length fixed.now ≡ length shape.now.terms }
+    requires { length fixed.now ≡ length b.now.shape.terms }
     ensures within { IfOk result (AreWithin count) }
     ensures lifted { (o : Terminology) (rows : List AnyRow) (names : List (List ℕ)) (generation : AnyRole → ℕ)
         → IsTableOf o rows names generation (T.rows t.now)
         → IfOk result (λ found. (numbers : List ℕ) → Contains found numbers
-        ↔ IsFoundKey o rows names generation (T.rows t.now) (record { shape = shape.now; answers = places.now }) fixed.now count numbers) }
+        ↔ IsFoundKey o rows names generation (T.rows t.now) b.now fixed.now count numbers) }
 {
+    let places = b.answers.items();
     let mut key = vec![in alloc; 0u32; places.len()]?;
     let mut found = NumberKeys::new(alloc);
-    let mut matches = Matches::new(alloc, shape, plan, fixed)?;
+    let mut matches = Matches::new(alloc, &b.shape, &b.plan, fixed)?;
     let levels = levels_up_to(places, matches.levels());
     'matches: while matches.advance(t) {
         let settled = add_key(
             alloc,
             &mut found,
-            shape,
+            &b.trees,
             matches.images(),
             places,
             count,
@@ -113,23 +99,23 @@ fn levels_up_to(places: &[u32], levels: &[u32]) -> usize
 fn add_key(
     alloc: Global,
     found: &mut NumberKeys,
-    shape: &Shape,
+    trees: &TreeWitnesses,
     images: &[Elem],
     places: &[u32],
     count: usize,
     key: &mut [u32],
 ) -> Result<bool, AllocError>
-    requires images { length images.now ≡ length shape.now.terms }
+    requires images { length images.now ≡ trees.now.terms }
     requires places { All (λ p. p < length images.now) places.now }
     requires room { length key.old ≡ length places.now }
-    ensures lifted { OnOk result (AddsLifted shape.now images.now places.now count found.old found.new) }
+    ensures lifted { (s : Layout) → IsLayout s → AreTreesOf s trees.now → OnOk result (AddsLifted s images.now places.now count found.old found.new) }
     ensures within { AreWithin count found.old → OnOk result (AreWithin count found.new) }
     ensures settled { IfOk result (λ settled. OnTrue settled (HasKeyOf images.now places.now count found.new)) }
 {
     if !read_key(images, places, count, key) {
         return Ok(true);
     }
-    if !lifts(shape, images) {
+    if !trees.passes(images) {
         return Ok(false);
     }
     found.add(alloc, key)?;

@@ -10,13 +10,16 @@ use join_plan::{Plan, plan};
 use query_shape::{Shape, ShapeError, shape};
 use std::alloc::{AllocError, Global};
 use std::marker::Model;
+use tree_witness::TreeWitnesses;
 
-/// The shape of a query, with the numbers of the terms at its answer places, and a plan for the search for its matches.
+/// The shape of a query, with the numbers of the terms at its answer places, a plan for the search for its matches, and the
+/// tree witnesses by which a match is tested.
 #[derive(Debug, Drop)]
 pub struct Bound {
     pub(crate) shape: Shape,
     pub(crate) answers: Items<u32>,
     pub(crate) plan: Plan,
+    pub(crate) trees: TreeWitnesses,
 }
 
 impl Model for Bound {
@@ -28,7 +31,7 @@ impl Model for Bound {
 
     ghost view = { λ b. record { shape = b.shape; answers = b.answers } };
 
-    ghost invariant = { λ b. IsPlanned (record { shape = b.shape; answers = b.answers }) b.plan };
+    ghost invariant = { λ b. IsPlanned (record { shape = b.shape; answers = b.answers }) b.plan b.trees };
 }
 
 /// The query by the numbers of its terms and by the places of the ontology's names, with a plan by the sizes of these tables,
@@ -42,10 +45,12 @@ pub fn bind<T: Tables>(alloc: Global, q: &Query, o: &Ontology, t: &T) -> Result<
     let shape = shape(alloc, q, o)?;
     let answers = variable_numbers(alloc, &shape, q.answers())?;
     let plan = plan(alloc, &shape, answers.items(), t)?;
+    let trees = TreeWitnesses::build(alloc, &shape)?;
     Ok(Bound {
         shape,
         answers,
         plan,
+        trees,
     })
 }
 

@@ -1,10 +1,10 @@
-use Rattle.std.proofs.Common.{inr}
+use Rattle.std.proofs.Common.{inl, inr}
 use Rattle.answer_core.proofs.ReadLemmas.{adds_lifted, added_within, reads_same}
 use Rattle.answer_core.proofs.answer_list.add_key.Goals as goal
 
 pub returns-clause-lifted : goal.returns-clause-lifted
-returns-clause-lifted c =
-    adds_lifted c.args.shape.now c.args.images.now c.args.count c.args.places.now c.read_key.new.key c.args.found.now c.add.new.self c.if-not-lifts.ensures c.in_ok-add.ensures.ok c.if-not-read_key.ensures.read
+returns-clause-lifted c = λ s layout trees.
+    adds_lifted s c.args.images.now c.args.count c.args.places.now c.read_key.new.key c.args.found.now c.add.new.self (c.if-not-passes.ensures.lifts s layout trees) c.in_ok-add.ensures.ok c.if-not-read_key.ensures.read
 
 pub returns-clause-within : goal.returns-clause-within
 returns-clause-within c =
@@ -13,3 +13,13 @@ returns-clause-within c =
 pub returns-clause-settled : goal.returns-clause-settled
 returns-clause-settled c = λ numbers reads. (c.in_ok-add.ensures.ok numbers).1
     (inr (reads_same c.args.images.now c.args.count c.args.places.now c.read_key.new.key numbers c.if-not-read_key.ensures.read reads))
+
+pub returns-then-not-passes-clause-lifted : goal.returns-then-not-passes-clause-lifted
+returns-then-not-passes-clause-lifted c = λ s layout trees o rows names generation table base match numbers.
+    let decides = c.if-not-passes.ensures.lifts s layout trees o rows names generation table base.distinct base.completed match in (
+      λ there. inl there,
+      λ either. elim either [
+        | inl there ↦ there
+        | inr both ↦ absurd (let passed = decides.1 both.0 in cc)
+      ],
+    )

@@ -13,6 +13,7 @@ invariant_of-result g c = record {
     within = numbers_within c.in_ok-shape.shape.terms c.answers.result.now c.in_ok-answers.answers c.in_ok-answers.ensures;
   };
   plan = c.in_ok-plan.ensures.plan;
+  trees_are = c.in_ok-trees.ensures;
 }
 
 pub plan-requires : goal.plan-requires
