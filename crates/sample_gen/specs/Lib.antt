@@ -1,0 +1,2 @@
+pub mod SampleScript
+pub mod SampleLaws
