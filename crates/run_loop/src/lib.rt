@@ -17,6 +17,7 @@ mod taking;
 
 pub use ending::Ending;
 pub use fault::Fault;
+pub use line::{Said, block_request, is_end, read_line};
 pub use running::run;
 
 #[cfg(test)]
