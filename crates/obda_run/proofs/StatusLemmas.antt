@@ -1,5 +1,5 @@
 -- What a status tells of the ending that it is of.
-use Rattle.std.proofs.Common.{◌≡◌, ◌⊎◌, inl, inr, ℕ, refl, sym, ap, ◌∙◌}
+use Rattle.std.proofs.Common.{◌≡◌, ◌⊎◌, inl, inr, ℕ, ap, ◌∙◌}
 use Rattle.document_run.specs.declared.ending.DocumentEnding.{DocumentEnding}
 use Rattle.document_run.specs.declared.ending.DocumentEnding.TheVariants as document
 use Rattle.run_loop.specs.declared.ending.Ending.{Ending}

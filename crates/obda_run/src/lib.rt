@@ -2,6 +2,7 @@
 #![tactic(auto)]
 
 mod command;
+mod sample;
 #[cfg(test)]
 mod scripts;
 mod serving;

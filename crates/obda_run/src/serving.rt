@@ -13,10 +13,12 @@ ghost use Rattle.document_run.specs.Run.{DocumentRan};
 ghost use Rattle.document_run.specs.declared.ending.DocumentEnding.{DocumentEnding as Answered};
 ghost use Rattle.run_loop.specs.Run.{IsComplete, NotOpened, RanOpened, TakesInput};
 ghost use Rattle.run_loop.specs.declared.ending.Ending.{Ending as Ended};
+ghost use Rattle.obda_run.specs.Sample.{SampleEnds};
 ghost use Rattle.obda_run.specs.Status.{document_status, script_status};
-ghost use Rattle.obda_run.specs.Words.{NamesAnswer, NamesRun, NamesCommand};
+ghost use Rattle.obda_run.specs.Words.{NamesAnswer, NamesRun, NamesSample, NamesCommand};
 
 use crate::command::{Command, command_of};
+use crate::sample::run_sample;
 use crate::status::Status;
 use document_run::answer;
 use horn_closure::Steps;
@@ -29,13 +31,16 @@ use std::sync::ledger::{Blank, Ledger};
 
 /// Runs the command that the words name. The one word `answer` reads one document to its end and prints the reply to it.
 /// The one word `run` loads the base that the first area keeps, reads a script to its end, and prints the reply to each
-/// request before the next one is taken.
+/// request before the next one is taken. The words `sample` and a decimal from 1 to 2,000 run the sample script of that size
+/// over a host of its own, and print one line with the number of its replies, of their answers and of their bytes; no input is
+/// read.
 ///
-/// `Done` comes where the input was read to its end and all replies are printed; `Refused` of `answer` alone, where a line
-/// of the document offends, with the first such line and its first code; `Usage` exactly where the words are others, and
-/// then nothing is read, printed or written; `ReadFault`, `PrintFault` and `DiskFault` where the source or the host failed,
-/// which ends the run; `Damaged` of `run` alone, where the area keeps no history; `NoMemory` where memory ran out;
-/// `InputTooLarge` where the source gave more than 67,108,864 bytes.
+/// `Done` comes where the input was read to its end and all replies are printed, and of `sample` where its line is;
+/// `Refused` of `answer` alone, where a line of the document offends, with the first such line and its first code; `Usage`
+/// exactly where the words are others, and then nothing is read, printed or written; `ReadFault`, `PrintFault` and
+/// `DiskFault` where the source or the host failed, which ends the run, of `sample` `PrintFault` alone; `Damaged` of `run`
+/// alone, where the area keeps no history; `NoMemory` where memory ran out; `InputTooLarge` where the source gave more than
+/// 67,108,864 bytes.
 pub fn serve<S: Source, H: Host>(
     alloc: Global,
     words: &Vec<String>,
@@ -96,6 +101,13 @@ pub fn serve<S: Source, H: Host>(
         × BothStay (H.disk host.old) (H.disk host.new) × (S.left source.new ≡ S.left source.old) × (H.printed host.new ≡ H.printed host.old)) }
     ensures damaged { (area at : ℕ) → result ≡ Status.Damaged area at → ForSome (H.disk host.old) (λ d. IsDamage d area at) }
 
+    // By `sample` the line of the tally is printed whole, or a front of it where printing fails, or nothing where memory runs out.
+    // The source isn't read, no area is touched, and but for the line the host isn't called.
+    ensures sample { (size : ℕ) → NamesSample size (map string_bytes words.now.items) → SampleEnds result size (H.printed host.old) (H.printed host.new) }
+    ensures sample_silent { (size : ℕ) → NamesSample size (map string_bytes words.now.items) → result ≢ Status.Done → result ≢ Status.PrintFault → host.new ≡ host.old }
+    ensures sample_source { (size : ℕ) → NamesSample size (map string_bytes words.now.items) → source.new ≡ source.old }
+    ensures sample_disk { (size : ℕ) → NamesSample size (map string_bytes words.now.items) → (H.disk host.new ≡ H.disk host.old) × (H.disk_faults host.new ≡ H.disk_faults host.old) }
+
     // Of a script at most one byte more than the limit is taken.
     ensures run_ends { NamesRun (map string_bytes words.now.items) → (e : Ended) × (result ≡ script_status e) × ForSome (S.left source.old) (λ input. TakesInput e input (S.left source.new)) }
 {
@@ -104,6 +116,7 @@ pub fn serve<S: Source, H: Host>(
         Some(Command::Run) => {
             Status::of_script(run_script::<S, H, Brand>(alloc, source, host, Blank::new(1)))
         }
+        Some(Command::Sample(size)) => run_sample::<H, Brand>(alloc, size, host, Blank::new(1)),
         None => Status::Usage,
     }
 }

@@ -8,7 +8,7 @@ use run_loop::Ending;
 /// How a call of `serve` ends, in the order of the exit statuses from 0.
 #[derive(Clone, Copy, Debug, PartialEq, Eq)]
 pub enum Status {
-    /// The input was read to its end and all replies are printed.
+    /// The input was read to its end and all replies are printed; of a sample, its line is.
     Done,
     /// The document is refused at this line, counted from 1, for the reason of this code.
     Refused { code: u8, line: u64 },

@@ -1,8 +1,9 @@
 // Command lines, and scripts with their replies.
 use super::*;
 use crate::scripts::{clashes, handles, refusals, sessions, tables, university};
-use host_io::{Areas, Bytes, Calls, EvenHost, Failed, Host, MemHost, MemSource, Source};
+use host_io::{Areas, Bytes, Calls, EvenHost, Failed, Host, MemHost, MemSource, Source, StdSource};
 use std::alloc::{AllocError, Global};
+use std::io::{self, Read};
 use std::process::Abort;
 use std::test::Fail;
 
@@ -52,14 +53,49 @@ fn try_all(rt: &impl Abort, alloc: Global, text: &'static str) -> Result<usize, 
     Ok(0)
 }
 
-// Whether the script has the replies that the case says.
+// A reader that gives so many bytes at a time.
+#[derive(Drop)]
+struct Pieces {
+    bytes: &'static [u8],
+    size: usize,
+}
+
+impl Read for Pieces {
+    fn read(&mut self, buf: &mut [u8]) -> io::Result<usize> {
+        let count = self.size.min(self.bytes.len()).min(buf.len());
+        let (piece, rest) = self.bytes.split_at(count);
+        buf[..count].copy_from_slice(piece);
+        self.bytes = rest;
+        Ok(count)
+    }
+}
+
+// Whether the script, which is read in pieces of so many bytes, has these replies.
+fn has_replies(
+    alloc: Global,
+    script: &'static str,
+    size: usize,
+    want: &[u8],
+) -> Result<bool, Fail> {
+    let bytes = script.as_bytes();
+    let words = command_line(alloc, &["run"])?;
+    let mut source = StdSource::new(Pieces { bytes, size });
+    let mut host = host_with(alloc, b"", &[])?;
+    let status = run(alloc, &words, &mut source, &mut host);
+    Ok(status == Status::Done && host.printed().items() == want)
+}
+
+// Whether the script has the replies that the case says, in whatever pieces it is read.
 fn is_met(alloc: Global, case: &'static str) -> Result<bool, Fail> {
     let Some((script, want)) = case.split_once("=> ") else {
         return Ok(false);
     };
-    let mut host = host_with(alloc, b"", &[])?;
-    let status = run_script(alloc, script.as_bytes(), &mut host)?;
-    Ok(status == Status::Done && host.printed().items() == want.as_bytes())
+    for size in [1, 2, 4095] {
+        if !has_replies(alloc, script, size, want.as_bytes())? {
+            return Ok(false);
+        }
+    }
+    Ok(true)
 }
 
 #[test]
@@ -83,13 +119,20 @@ fn bytes_left<S: Source>(source: &mut S) -> Result<usize, Failed> {
 #[test]
 fn other_words_touch_nothing(rt: HostRuntime) -> Result<(), Fail> {
     let alloc = rt.alloc();
-    let lines: [&[&str]; 6] = [
+    let lines: [&[&str]; 13] = [
         &[],
         &["a"],
         &["answers"],
         &["answer", "answer"],
+        &["answer", "now"],
         &["answer", "run"],
         &["runs"],
+        &["sample"],
+        &["sample", "0"],
+        &["sample", "01"],
+        &["sample", "+1"],
+        &["sample", "2001"],
+        &["sample", "1", "1"],
     ];
     for line in lines {
         let words = command_line(alloc, line)?;
@@ -112,6 +155,44 @@ fn a_document_is_answered(rt: HostRuntime) -> Result<(), Fail> {
     assert_eq!(rt; run(alloc, &words, &mut source, &mut host), Status::Done);
     assert_eq!(rt; host.printed().items(), b"answer ann\nend 1\n".as_slice());
     assert_eq!(rt; host.calls(), 1);
+    Ok(())
+}
+
+// A run of the sample of this size over the host.
+fn run_sample<H: Host>(alloc: Global, size: &str, host: &mut H) -> Result<Status, Fail> {
+    let words = command_line(alloc, &["sample", size])?;
+    let mut source = MemSource::new(Bytes::from_slice(alloc, b"rest")?, Calls::new(alloc));
+    let status = run(alloc, &words, &mut source, host);
+    Ok(match bytes_left(&mut source) {
+        Ok(4) => status,
+        _ => Status::ReadFault,
+    })
+}
+
+// The answers and bytes of the sample of 2,000 are those of a model in another language.
+#[test]
+fn a_sample_prints_its_line(rt: HostRuntime) -> Result<(), Fail> {
+    let alloc = rt.alloc();
+    let lines: [(&str, &str); 4] = [
+        ("1", "sample 1 replies 8 answers 1 bytes 68\n"),
+        ("4", "sample 4 replies 11 answers 8 bytes 153\n"),
+        (
+            "2000",
+            "sample 2000 replies 2007 answers 4928 bytes 76043\n",
+        ),
+        (
+            "2000",
+            "sample 2000 replies 2007 answers 4928 bytes 76043\n",
+        ),
+    ];
+    for (size, want) in lines {
+        let mut host = host_with(alloc, b"", &[])?;
+        assert_eq!(rt; run_sample(alloc, size, &mut host)?, Status::Done);
+        assert_eq!(rt; host.printed().items(), want.as_bytes());
+        assert_eq!(rt; host.calls(), 1);
+    }
+    let mut host = host_with(alloc, b"", &[1])?;
+    assert_eq!(rt; run_sample(alloc, "1", &mut host)?, Status::PrintFault);
     Ok(())
 }
 
@@ -289,20 +370,25 @@ fn all_live(alloc: Global) -> Result<Vec<u8>, Fail> {
     Ok(text)
 }
 
-// Eight transactions that add 65,536 individuals, and what comes behind them.
-fn crowd(alloc: Global, behind: &str) -> Result<Vec<u8>, Fail> {
-    let mut text = b"ontology\nClass(A)\nend\n".to_vec(alloc)?;
-    for i in 0..65_536u32 {
-        if i % 8_192 == 0 {
-            text.extend_from_slice(b"begin 0\n")?;
-        }
-        text.extend_from_slice(format!(in alloc; "add 0 A x{i}\n")?.as_bytes())?;
-        if i % 8_192 == 8_191 {
-            text.extend_from_slice(b"commit 0\n")?;
-        }
+// So many transactions that each add so many individuals to A, and what comes behind them.
+fn crowd(alloc: Global, transactions: u32, size: u32, behind: &str) -> Result<Vec<u8>, Fail> {
+    let mut text = b"ontology\nClass(A)\nClass(B)\nend\n".to_vec(alloc)?;
+    for i in 0..transactions {
+        add_to_a(alloc, &mut text, i.saturating_mul(size), size)?;
     }
     text.extend_from_slice(behind.as_bytes())?;
     Ok(text)
+}
+
+// A transaction that adds so many individuals to A, where so many were added before.
+fn add_to_a(alloc: Global, text: &mut Vec<u8>, before: u32, size: u32) -> Result<(), Fail> {
+    text.extend_from_slice(b"begin 0\n")?;
+    for i in 1..=size {
+        let number = before.saturating_add(i);
+        text.extend_from_slice(format!(in alloc; "add 0 A x{number}\n")?.as_bytes())?;
+    }
+    text.extend_from_slice(b"commit 0\n")?;
+    Ok(())
 }
 
 // How the replies to a script end.
@@ -361,7 +447,12 @@ fn lines_transactions_and_inputs_have_their_limits(rt: HostRuntime) -> Result<()
     ends(
         &rt,
         alloc,
-        &crowd(alloc, "begin 0\nadd 0 A y\ncommit 0\ndel 0 A y\ncommit 0\n")?,
+        &crowd(
+            alloc,
+            8,
+            8_192,
+            "begin 0\nadd 0 A y\ncommit 0\ndel 0 A y\ncommit 0\n",
+        )?,
         b"\nok 8 8192 0\nok\nok\nerror 11\nok\nok 9 0 0\n",
     )?;
     ends(&rt, alloc, &check_line(alloc, 4_091)?, b"\nconsistent\n")?;
@@ -372,4 +463,17 @@ fn lines_transactions_and_inputs_have_their_limits(rt: HostRuntime) -> Result<()
     assert_eq!(rt; status, Status::InputTooLarge);
     assert_eq!(rt; host.printed().items(), b"".as_slice());
     Ok(())
+}
+
+// In the order of the text this takes 3,600,000,000 looks at rows.
+#[test]
+fn what_is_least_comes_first(rt: HostRuntime) -> Result<(), Fail> {
+    let alloc = rt.alloc();
+    let behind = "begin 0\nadd 0 B x1\ncommit 0\nask q(?x) :- A(?x), A(?y), B(?x)\n";
+    ends(
+        &rt,
+        alloc,
+        &crowd(alloc, 6, 10_000, behind)?,
+        b"\nok 7 1 0\nanswer x1\nend 1\n",
+    )
 }
