@@ -1,5 +1,5 @@
 -- The individuals of rows can be listed, in one way.
-use Rattle.std.proofs.Common.{◌≡◌, ℕ, inl, inr, List, [], ◌∷◌, Contains, refl, sym, subst, arith}
+use Rattle.std.proofs.Common.{◌≡◌, ℕ, inl, inr, List, [], ◌∷◌, Contains, sym, arith}
 use Rattle.std.specs.Prelude.{flat_map}
 use Rattle.dl_base.specs.Numbers.{names_in}
 use Rattle.dl_base.specs.Rows.{AreIndividuals, Names, name_cmp}
@@ -7,7 +7,7 @@ use Rattle.dl_base.specs.declared.row.NamedRow.{NamedRow}
 use Rattle.dl_base.specs.declared.row.NamedRow.TheVariants as row
 use Rattle.dl_base.proofs.InOrder.{in_order, in_order_rises, from_order, into_order}
 use Rattle.dl_base.proofs.PlaceLemmas.{flat_part, flat_there}
-use Rattle.dl_base.proofs.RisingLemmas.{contains_cases, contains_first, contains_later, same_rising}
+use Rattle.dl_base.proofs.RisingLemmas.{contains_cases, same_rising}
 use Rattle.dl_base.proofs.RowLemmas.{name_same, name_total}
 
 pub names_row : (r : NamedRow) (a : List ℕ) → Contains (names_in r) a → Names a r

@@ -3,7 +3,7 @@ use Rattle.std.proofs.Common.{◌≡◌, ℕ, ◌≤◌, List, length, All, Cont
 use Rattle.std.specs.List.{AllByRecursion}
 use Rattle.std.proofs.lemmas.List.Elements.{All-contains, All-weaker}
 use Rattle.dl_base.specs.Derivation.{Derives}
-use Rattle.dl_base.specs.Ontology.{Terminology, IsTerminology, IsWellFormed, NamesPlaces, IsPlaced, IsPlacedHead, IsWithin}
+use Rattle.dl_base.specs.Ontology.{Terminology, IsTerminology, IsPlaced, IsPlacedHead, IsWithin}
 use Rattle.dl_base.specs.declared.concept.Basic.{Basic}
 use Rattle.dl_base.specs.declared.concept.Basic.TheVariants as basic
 use Rattle.dl_base.specs.declared.concept.Head.{Head}

@@ -38,6 +38,10 @@ IsIn table (basic.Exists r) e = HasEdge table r e
 abbrev pub witness_cmp : Witness → Witness → Ordering
 witness_cmp w v = ordering_then (nat_cmp w.role.name v.role.name) (ordering_then (inverse_cmp w.role.inverse v.role.inverse) (nat_cmp w.generation v.generation))
 
+-- a witness of the role, of whatever generation
+abbrev pub IsWitnessOf : Role → Elem → Type 0
+IsWitnessOf r e = (w : Witness) × (e ≡ elem.Shared w) × (w.role ≡ r)
+
 -- individuals by their numbers, before all witnesses
 abbrev pub elem_cmp : Elem → Elem → Ordering
 elem_cmp (elem.Named a) (elem.Named b) = nat_cmp a b

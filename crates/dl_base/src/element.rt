@@ -1,6 +1,6 @@
 //! Elements of completed tables.
-ghost use Rattle.std.specs.Prelude.{◌≡◌};
-ghost use Rattle.dl_base.specs.Tables.{elem_cmp};
+ghost use Rattle.std.specs.Prelude.{◌≡◌, ◌↔◌, IsTrue};
+ghost use Rattle.dl_base.specs.Tables.{IsWitnessOf, elem_cmp};
 
 use crate::Role;
 use std::cmp::Ordering;
@@ -29,6 +29,16 @@ impl Elem {
         ensures { result ≡ elem_cmp self.now other.now }
     {
         self.cmp(other)
+    }
+
+    /// Whether this is a witness of the role, of whatever generation.
+    pub fn is_witness_of(&self, role: Role) -> bool
+        ensures { IsTrue result ↔ IsWitnessOf role self.now }
+    {
+        match *self {
+            Elem::Named(_) => false,
+            Elem::Shared(witness) => witness.role == role,
+        }
     }
 }
 

@@ -27,7 +27,7 @@ pub use plain_list::Items;
 pub use query::{Atom, Atoms, Key, Keys, Query, Term, Vars};
 pub use row::{Change, Changes, NamedChange, NamedRow, NamedRows, Row, RowList};
 pub use sets::{BasicSet, PLACES, RoleSet, place};
-pub use tables::Tables;
+pub use tables::{Hint, Tables};
 
 #[cfg(test)]
 mod copy_tests;
