@@ -19,7 +19,7 @@ use Rattle.query_shape.specs.Lifting.{LiftsShape}
 use Rattle.query_shape.specs.Shape.{IsShapeMatch}
 use Rattle.query_shape.proofs.LiftLemmas.{same_lifting}
 use Rattle.query_shape.proofs.MatchLemmas.{same_matches, each_placing, image_at}
-use Rattle.query_shape.proofs.NumberingLemmas.{occur_distinct, occur_from, occur_into}
+use Rattle.query_shape.proofs.NumberingLemmas.{firsts_distinct, firsts_from, firsts_into}
 use Rattle.join_ops.specs.Joins.{IsFixed}
 use Rattle.answer_core.specs.Keys.{IsNumbered, IsKeyOf}
 use Rattle.answer_core.specs.Binding.{BoundQuery, IsBoundTo, IsFixedTerm}
@@ -61,7 +61,7 @@ module _ (o : Terminology) (rows : List NamedRow) (names : List (List ℕ)) (gen
     fixed_of_key i n at =
         let found = zip_back (IsFixedTerm names) b.shape.terms fixed i (Some n) fixed_are at in
         let name = fixed_name names found.0 n found.2 in
-        let there : Contains (terms q) (term.Named name.0) = occur_from bound.shape.terms_are (term.Named name.0) (member_at b.shape.terms i (term.Named name.0) (found.1 ∙ ap Some name.1)) in
+        let there : Contains (terms q) (term.Named name.0) = firsts_from bound.shape.terms_are (term.Named name.0) (member_at b.shape.terms i (term.Named name.0) (found.1 ∙ ap Some name.1)) in
         let number = numbered names (k.place (term.Named name.0)) name.0 (k.names_are name.0 there) in
         let one : number.number ≡ n = one_place names number.number n name.0 distinct number.at name.2 in
         image_at k.place b.shape.terms i found.0 found.1 ∙ ap Some (ap k.place name.1 ∙ (number.is ∙ ap elem.Named one))
@@ -87,7 +87,7 @@ module _ (o : Terminology) (rows : List NamedRow) (names : List (List ℕ)) (gen
   -- from a match
   module _ (numbers : List ℕ) (found : IsFoundKey o rows names generation table b fixed (length names) numbers) (key : List (List ℕ)) (spells : Spells names numbers key) where
     placing : (place : Term → Elem) × (map place b.shape.terms ≡ found.images)
-    placing = each_placing b.shape.terms found.images (occur_distinct bound.shape.terms_are) found.match_is.count
+    placing = each_placing b.shape.terms found.images (firsts_distinct bound.shape.terms_are) found.match_is.count
 
     stands_at : (n : ℕ) (t : Term) (e : Elem) → slice_get b.shape.terms n ≡ Some t → slice_get found.images n ≡ Some e → placing.0 t ≡ e
     stands_at n t e at image = some_same (sym (image_at placing.0 b.shape.terms n t at) ∙ (ap (λ (es : List Elem). slice_get es n) placing.1 ∙ image))
@@ -109,7 +109,7 @@ module _ (o : Terminology) (rows : List NamedRow) (names : List (List ℕ)) (gen
 
     names_of : (a : List ℕ) → Contains (terms q) (term.Named a) → IsNumbered names (placing.0 (term.Named a)) a
     names_of a there =
-        let among : Contains b.shape.terms (term.Named a) = occur_into bound.shape.terms_are (term.Named a) there in
+        let among : Contains b.shape.terms (term.Named a) = firsts_into bound.shape.terms_are (term.Named a) there in
         let at = at_place b.shape.terms (term.Named a) among in
         let entry = zip_at (IsFixedTerm names) b.shape.terms fixed at.0 (term.Named a) fixed_are at.2 in
         let number = name_fixed names a entry.0 (known a among) entry.2 in
@@ -163,4 +163,4 @@ no_answers o rows names generation table q b bound query completed unknown = rec
     by a n = member_at names n.number a n.at
 
     unlifted : (key : List (List ℕ)) → IsKeyOf o rows names generation table q key → ⊥
-    unlifted key k = unknown (λ a there. by a (numbered names (k.place (term.Named a)) a (k.names_are a (occur_from bound.shape.terms_are (term.Named a) there))))
+    unlifted key k = unknown (λ a there. by a (numbered names (k.place (term.Named a)) a (k.names_are a (firsts_from bound.shape.terms_are (term.Named a) there))))

@@ -5,7 +5,7 @@ use Rattle.std.proofs.lemmas.List.Elements.{All-cons, All-nil, All-contains, Con
 use Rattle.std.proofs.lemmas.Option.{slice_get-get_or, slice_get_within, get_or_from_slice_get}
 use Rattle.dl_base.specs.declared.element.Elem.{Elem}
 use Rattle.dl_base.specs.declared.element.Elem.TheVariants as elem
-use Rattle.match_filter.specs.LiftingTest.{DecidesLifting}
+use Rattle.query_shape.specs.Lifting.{DecidesLifting}
 use Rattle.query_shape.specs.Shape.{Layout}
 use Rattle.answer_core.specs.Found.{IsOf, Stands, AllStand, AddsKey, AddsLifted, AreWithin}
 use Rattle.join_ops.specs.Orders.{AgreeUpTo}

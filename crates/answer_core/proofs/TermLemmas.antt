@@ -6,8 +6,8 @@ use Rattle.std.proofs.lemmas.Option.{slice_get_within}
 use Rattle.dl_base.specs.Query.{Question, IsQuery, terms}
 use Rattle.dl_base.specs.declared.query.Term.{Term}
 use Rattle.dl_base.specs.declared.query.Term.TheVariants as term
-use Rattle.query_shape.specs.Shape.{Occur}
-use Rattle.query_shape.proofs.NumberingLemmas.{occur_into}
+use Rattle.query_shape.specs.Shape.{AreFirsts}
+use Rattle.query_shape.proofs.NumberingLemmas.{firsts_into}
 use Rattle.answer_core.specs.Binding.{IsKnownTerm}
 use Rattle.answer_core.proofs.ListLemmas.{at_place}
 
@@ -19,9 +19,9 @@ pub known_names : (names : List (List ℕ)) (ts : List Term) → AllBefore (IsKn
 known_names names ts all a there = let place = at_place ts (term.Named a) there in all place.0 (term.Named a) place.1 place.2
 
 -- each answer variable has a number
-pub answers_occur : (q : Question) (ts : List Term) → IsQuery q → Occur (terms q) ts → (vs : List (List ℕ)) → vs ≡ q.answers → All (λ v. Contains ts (term.Var v)) vs
+pub answers_occur : (q : Question) (ts : List Term) → IsQuery q → AreFirsts (terms q) ts → (vs : List (List ℕ)) → vs ≡ q.answers → All (λ v. Contains ts (term.Var v)) vs
 answers_occur q ts query occur vs is k d below =
-    occur_into occur (term.Var (get_or vs k d)) (subst (λ (names : List (List ℕ)). All (λ v. Contains (terms q) (term.Var v)) names) (sym is) query.safe k d below)
+    firsts_into occur (term.Var (get_or vs k d)) (subst (λ (names : List (List ℕ)). All (λ v. Contains (terms q) (term.Var v)) names) (sym is) query.safe k d below)
 
 -- the numbers are of terms
 pub numbers_within : (ts : List Term) (vs : List (List ℕ)) (ns : List ℕ) → AllZip (λ v n. slice_get ts n ≡ Some (term.Var v)) vs ns → All (λ n. n < length ts) ns

@@ -54,7 +54,7 @@ ends (shape.Role q x y) r n m (inl h) = (inl h.1, inr h.2)
 ends (shape.Role q x y) r n m (inr h) = (inr h.1, inl h.2)
 
 -- and it has no others
-only_ends : (a : ShapeAtom) (r : Role) (n m k : ℕ) → LeadsBy a r n m → IsTermOf k a → (k ≡ n) ⊎ (k ≡ m)
+pub only_ends : (a : ShapeAtom) (r : Role) (n m k : ℕ) → LeadsBy a r n m → IsTermOf k a → (k ≡ n) ⊎ (k ≡ m)
 only_ends (shape.Concept c x) r n m k h t = absurd h
 only_ends (shape.Role q x y) r n m k (inl h) (inl e) = inl (e ∙ sym h.1)
 only_ends (shape.Role q x y) r n m k (inl h) (inr e) = inr (e ∙ sym h.2)

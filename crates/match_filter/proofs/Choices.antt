@@ -7,7 +7,7 @@ use Rattle.dl_base.specs.declared.element.Elem.TheVariants as elem
 use Rattle.dl_base.proofs.RisingLemmas.{contains_cases, contains_later, contains_first}
 use Rattle.dl_base.proofs.RoleLemmas.{one_role_or_two}
 use Rattle.query_shape.proofs.MatchList.{Decided, decide_as}
-use Rattle.match_filter.specs.Links.{IsOn}
+use Rattle.query_shape.specs.TreeWitness.{IsOn}
 
 pub decide_below : (m n : ℕ) → Decided (m < n)
 decide_below m zero = inr (λ h. omega arith)

@@ -14,7 +14,7 @@ use Rattle.query_shape.specs.Lifting.{LiftsShape}
 use Rattle.query_shape.specs.declared.layout.ShapeAtom.{ShapeAtom}
 use Rattle.query_shape.proofs.MatchList.{Decided, decide_as, decide_nat}
 use Rattle.match_filter.specs.Links.{Linked, IsLink, AreLinks, AreBelow, IsLinkBelow, HasLink}
-use Rattle.match_filter.specs.LiftingTest.{DecidesLifting}
+use Rattle.query_shape.specs.Lifting.{DecidesLifting}
 use Rattle.match_filter.specs.Joining.{Joined, itself, turned, through, parents, IsGrounded, ground, Agree, AreClasses, AgreeBy}
 use Rattle.match_filter.specs.declared.link.Link.{Link}
 use Rattle.match_filter.proofs.Necessity.{placed_agree, placed_grounded}

@@ -66,7 +66,7 @@ filled_more images atoms i links a found few at_i is filled = record { count = l
     ahead k x le at = filled.ahead k x (omega arith) (sym (get_unwritten links i k found (omega arith)) ∙ at)
 
 -- an atom has one parent and child
-one_link : (images : List Elem) (a : ShapeAtom) (p c q d : ℕ) → IsLinkOf images a p c → IsLinkOf images a q d → (p ≡ q) × (c ≡ d)
+pub one_link : (images : List Elem) (a : ShapeAtom) (p c q d : ℕ) → IsLinkOf images a p c → IsLinkOf images a q d → (p ≡ q) × (c ≡ d)
 one_link images (shape.Concept x n) p c q d l m = absurd l
 one_link images (shape.Role r n m) p c q d (inl l) (inl k) = (l.0 ∙ sym k.0, l.1 ∙ sym k.1)
 one_link images (shape.Role r n m) p c q d (inl l) (inr k) = absurd (k.2 l.2)

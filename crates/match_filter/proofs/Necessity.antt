@@ -15,7 +15,8 @@ use Rattle.query_shape.specs.Shape.{IsBelow}
 use Rattle.query_shape.specs.Lifting.{HoldsOn}
 use Rattle.query_shape.specs.declared.layout.ShapeAtom.{ShapeAtom}
 use Rattle.query_shape.specs.declared.layout.ShapeAtom.TheVariants as shape
-use Rattle.match_filter.specs.Links.{IsOn, IsLinkOf, IsLink}
+use Rattle.match_filter.specs.Links.{IsLinkOf, IsLink}
+use Rattle.query_shape.specs.TreeWitness.{IsOn}
 use Rattle.match_filter.specs.Joining.{Joined, itself, turned, through, parents, IsGrounded, ground, Agree}
 
 -- the element that one extends

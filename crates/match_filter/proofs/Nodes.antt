@@ -15,7 +15,8 @@ use Rattle.dl_base.proofs.RowLemmas.{ends_of_row}
 use Rattle.query_shape.specs.Shape.{HoldsAt, IsTermOf}
 use Rattle.query_shape.specs.declared.layout.ShapeAtom.{ShapeAtom}
 use Rattle.query_shape.specs.declared.layout.ShapeAtom.TheVariants as shape
-use Rattle.match_filter.specs.Links.{IsOn, IsLinkOf}
+use Rattle.match_filter.specs.Links.{IsLinkOf}
+use Rattle.query_shape.specs.TreeWitness.{IsOn}
 use Rattle.match_filter.proofs.Leads.{LeadsAt, Leads, IsRoleRow, edge_leads}
 
 -- an element of the tables is on this node, which exists
@@ -47,6 +48,13 @@ module _ (o : Terminology) (rows : List NamedRow) where
   leads_nodes r x y (inr (inl found)) = let both = pointed x r found.1 in (both.0, subst (IsNode o rows) (sym found.0) both.1)
   leads_nodes r x y (inr (inr back)) = let both = pointed y (inverse r) back.1 in (subst (IsNode o rows) (sym back.0) both.1, both.0)
 
+-- the node of an image on the witness of a role
+pub node_of_on : (names : List (List ℕ)) (generation : Role → ℕ) (images : List Elem) (k : ℕ) (e : Elem) (x : Node) (r : Role) → slice_get images k ≡ Some e → Represents names generation e x → IsOn images r k → x ≡ WitnessOf r
+node_of_on names generation images k e (Individual a) r at is (w, at_w, role) = absurd (subst (λ (f : Elem). Represents names generation f (Individual a)) (same_Some e (elem.Shared w) (sym at ∙ at_w)) is)
+node_of_on names generation images k e (WitnessOf s) r at is (w, at_w, role) =
+    let both = subst (λ (f : Elem). Represents names generation f (WitnessOf s)) (same_Some e (elem.Shared w) (sym at ∙ at_w)) is in
+    ap WitnessOf (sym both.0 ∙ role)
+
 module _ (o : Terminology) (rows : List NamedRow) (names : List (List ℕ)) (generation : Role → ℕ) (table : List TableRow) (completed : AreCompleted o rows names generation table) (images : List Elem) where
   -- each term of an atom is on a node
   pub term_stands : (a : ShapeAtom) (k : ℕ) (e : Elem) → IsTermOf k a → HoldsAt table images a → slice_get images k ≡ Some e → StandsOn o rows names generation e
@@ -67,12 +75,6 @@ module _ (o : Terminology) (rows : List NamedRow) (names : List (List ℕ)) (gen
   pub on_of : (k : ℕ) (e : Elem) (r : Role) → slice_get images k ≡ Some e → Represents names generation e (WitnessOf r) → IsOn images r k
   on_of k (elem.Named n) r at is = absurd is
   on_of k (elem.Shared w) r at is = (w, at, is.0)
-
-  node_of_on : (k : ℕ) (e : Elem) (x : Node) (r : Role) → slice_get images k ≡ Some e → Represents names generation e x → IsOn images r k → x ≡ WitnessOf r
-  node_of_on k e (Individual a) r at is (w, at_w, role) = absurd (subst (λ (f : Elem). Represents names generation f (Individual a)) (same_Some e (elem.Shared w) (sym at ∙ at_w)) is)
-  node_of_on k e (WitnessOf s) r at is (w, at_w, role) =
-      let both = subst (λ (f : Elem). Represents names generation f (WitnessOf s)) (same_Some e (elem.Shared w) (sym at ∙ at_w)) is in
-      ap WitnessOf (sym both.0 ∙ role)
 
   -- the node of the parent points to the witness on which the child is
   linked_points : (p c : ℕ) (e f : Elem) (x : Node) (r : Role) → slice_get images p ≡ Some e → slice_get images c ≡ Some f → Represents names generation e x → Represents names generation f (WitnessOf r)
@@ -99,7 +101,7 @@ module _ (o : Terminology) (rows : List NamedRow) (names : List (List ℕ)) (gen
       case x y is_x is_y witness (inr (inr back)) = absurd ((subst (λ (z : Node). NodePoints o rows z (inverse r)) witness back.1).1.not_back refl)
 
       by : LeadsAt o rows names generation r e f → PointsTo o rows names generation images n m
-      by leads = case leads.from leads.to leads.from_is leads.to_is (node_of_on m f leads.to r to leads.to_is on) leads.leads
+      by leads = case leads.from leads.to leads.from_is leads.to_is (node_of_on names generation images m f leads.to r to leads.to_is on) leads.leads
 
   backward : (r : Role) (n m : ℕ) → HoldsAt table images (shape.Role r n m) → IsOn images (inverse r) n → PointsTo o rows names generation images m n
   backward r n m (e, f, from, to, row) on = by (edge_leads o rows names generation table completed r e f row)
@@ -110,7 +112,7 @@ module _ (o : Terminology) (rows : List NamedRow) (names : List (List ℕ)) (gen
       case x y is_x is_y witness (inr (inr back)) = linked_points m n f e y (inverse r) to from is_y (subst (Represents names generation e) witness is_x) back.1
 
       by : LeadsAt o rows names generation r e f → PointsTo o rows names generation images m n
-      by leads = case leads.from leads.to leads.from_is leads.to_is (node_of_on n e leads.from (inverse r) from leads.from_is on) leads.leads
+      by leads = case leads.from leads.to leads.from_is leads.to_is (node_of_on names generation images n e leads.from (inverse r) from leads.from_is on) leads.leads
 
   pub link_points : (a : ShapeAtom) → HoldsAt table images a → (p c : ℕ) → IsLinkOf images a p c → PointsTo o rows names generation images p c
   link_points (shape.Concept d n) holds p c l = absurd l

@@ -20,7 +20,8 @@ use Rattle.query_shape.specs.declared.layout.ShapeAtom.{ShapeAtom}
 use Rattle.query_shape.specs.declared.layout.ShapeAtom.TheVariants as shape
 use Rattle.query_shape.proofs.MatchList.{Decided, decide_elem, decide_member}
 use Rattle.dl_base.proofs.PlaceLemmas.{member_at, place_of}
-use Rattle.match_filter.specs.Links.{IsOn, IsLinkOf, IsLink}
+use Rattle.match_filter.specs.Links.{IsLinkOf, IsLink}
+use Rattle.query_shape.specs.TreeWitness.{IsOn}
 use Rattle.match_filter.specs.Joining.{Joined, itself, IsGrounded, Agree}
 use Rattle.match_filter.proofs.Leads.{IsRoleRow}
 use Rattle.match_filter.proofs.Nodes.{StandsOn, PointsTo, term_stands, link_points, row_between}

@@ -1,17 +1,12 @@
 -- Parents and children among the terms of a shape: which of an atom's terms points to the witness that the other has.
-use Rattle.std.specs.Prelude.{◌≡◌, ◌⊎◌, ◌↔◌, ◌<◌, ℕ, List, Option, Some, None, slice_get, All, Contains}
+use Rattle.std.specs.Prelude.{◌≡◌, ◌⊎◌, ◌↔◌, ◌<◌, ℕ, List, Option, Some, None, All, Contains}
 use Rattle.dl_base.specs.Derivation.{inverse}
 use Rattle.dl_base.specs.declared.concept.Role.{Role}
-use Rattle.dl_base.specs.declared.element.Witness.{Witness}
 use Rattle.dl_base.specs.declared.element.Elem.{Elem}
-use Rattle.dl_base.specs.declared.element.Elem.TheVariants as elem
 use Rattle.query_shape.specs.declared.layout.ShapeAtom.{ShapeAtom}
 use Rattle.query_shape.specs.declared.layout.ShapeAtom.TheVariants as shape
+use Rattle.query_shape.specs.TreeWitness.{IsOn}
 use Rattle.match_filter.specs.declared.link.Link.{Link}
-
--- the image of the term of this number is a witness of the role
-abbrev pub IsOn : List Elem → Role → ℕ → Type 0
-IsOn images r k = (w : Witness) × (slice_get images k ≡ Some (elem.Shared w)) × (w.role ≡ r)
 
 -- The atom's terms of these numbers are parent and child: the child's image is the witness of the atom's role, read from
 -- parent to child.

@@ -1,6 +1,6 @@
 //! Whether a match lifts.
 ghost use Rattle.std.specs.Prelude.{◌≡◌, length};
-ghost use Rattle.match_filter.specs.LiftingTest.{DecidesLifting};
+ghost use Rattle.query_shape.specs.Lifting.{DecidesLifting};
 
 use crate::classes::{agree, classes};
 use crate::grounding::grounded;

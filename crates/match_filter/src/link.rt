@@ -1,9 +1,9 @@
 //! Parents and children among the terms of a shape.
 ghost use Rattle.std.specs.Prelude.{◌≡◌, ◌↔◌, ◌<◌, ◌≤◌, ℕ, length, All, IsTrue, MatchOption};
 ghost use Rattle.query_shape.specs.Shape.{IsBelow};
-ghost use Rattle.match_filter.specs.Links.{IsOn, IsLinkOf, AreLinks, HasLink};
+ghost use Rattle.match_filter.specs.Links.{IsLinkOf, AreLinks, HasLink};
 
-use dl_base::{Elem, Role};
+use dl_base::Elem;
 use query_shape::ShapeAtom;
 
 /// The number of a term that points to a witness, and that of a term on this witness.
@@ -46,13 +46,13 @@ fn link_of(atom: &ShapeAtom, images: &[Elem]) -> Option<Link>
     match *atom {
         ShapeAtom::Concept { .. } => None,
         ShapeAtom::Role { role, from, to } => {
-            if is_on(images, role, to) {
+            if images[to as usize].is_witness_of(role) {
                 return Some(Link {
                     parent: from,
                     child: to,
                 });
             }
-            if is_on(images, role.inverted(), from) {
+            if images[from as usize].is_witness_of(role.inverted()) {
                 return Some(Link {
                     parent: to,
                     child: from,
@@ -60,16 +60,5 @@ fn link_of(atom: &ShapeAtom, images: &[Elem]) -> Option<Link>
             }
             None
         }
-    }
-}
-
-/// Whether the image of a term is a witness of the role.
-fn is_on(images: &[Elem], role: Role, term: u32) -> bool
-    requires { term < length images.now }
-    ensures { IsTrue result ↔ IsOn images.now role term }
-{
-    match images[term as usize] {
-        Elem::Named(_) => false,
-        Elem::Shared(witness) => witness.role == role,
     }
 }

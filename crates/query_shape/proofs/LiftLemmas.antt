@@ -22,7 +22,7 @@ use Rattle.query_shape.specs.Lifting.{HoldsOn, LiftsShape}
 use Rattle.query_shape.specs.declared.layout.ShapeAtom.{ShapeAtom}
 use Rattle.query_shape.specs.declared.layout.ShapeAtom.TheVariants as shape
 use Rattle.query_shape.proofs.MatchLemmas.{same_term, same_itself, same_is, image_at, image_is}
-use Rattle.query_shape.proofs.NumberingLemmas.{occur_from, occur_into, occur_distinct}
+use Rattle.query_shape.proofs.NumberingLemmas.{firsts_from, firsts_into, firsts_distinct}
 use Rattle.dl_base.proofs.PlaceLemmas.{member_at, place_of, one_place, zip_left, zip_right, distinct_head, distinct_tail}
 
 -- ---- the number of a term, and the term of a number
@@ -92,11 +92,11 @@ same_lifting o rows names generation q s images concepts roles is = (into, back)
     into l = record {
       count = length-map s.terms images;
       place = λ k. l.place (term_of s.terms k);
-      short = λ k lt. l.placed.short (term_of s.terms k) (occur_from is.terms_are (term_of s.terms k) (member_at s.terms k (term_of s.terms k) (term_at s.terms k lt)));
+      short = λ k lt. l.placed.short (term_of s.terms k) (firsts_from is.terms_are (term_of s.terms k) (member_at s.terms k (term_of s.terms k) (term_at s.terms k lt)));
       folds = λ k e at.
           let lt : k < length s.terms = subst (λ (n : ℕ). k < n) (length-map s.terms images) (slice_get_within (map images s.terms) k e at) in
           let there = term_at s.terms k lt in
-          let member = occur_from is.terms_are (term_of s.terms k) (member_at s.terms k (term_of s.terms k) there) in
+          let member = firsts_from is.terms_are (term_of s.terms k) (member_at s.terms k (term_of s.terms k) there) in
           subst (λ (f : Elem). Represents names generation f (node_of (l.place (term_of s.terms k)))) (sym (image_is images s.terms k (term_of s.terms k) e there at)) (l.folds (term_of s.terms k) member);
       atoms = λ a there.
           let of = zip_right (NumbersAtom o s.terms) q.atoms s.atoms is.atoms_are a there in
@@ -108,16 +108,16 @@ same_lifting o rows names generation q s images concepts roles is = (into, back)
       place = λ t. l.place (number_of s.terms t);
       placed = record {
         short = λ t c.
-            let member = occur_into is.terms_are t c in
-            let number : number_of s.terms t ≡ member.0 = number_there s.terms member.0 t (occur_distinct is.terms_are) (place_of s.terms t member) in
+            let member = firsts_into is.terms_are t c in
+            let number : number_of s.terms t ≡ member.0 = number_there s.terms member.0 t (firsts_distinct is.terms_are) (place_of s.terms t member) in
             subst (λ (k : ℕ). IsShort o rows (l.place k)) (sym number) (l.short member.0 member.1);
         atoms = λ a there.
             let of = zip_left (NumbersAtom o s.terms) q.atoms s.atoms is.atoms_are a there in
-            on_holds o rows s.terms concepts roles (λ t. l.place (number_of s.terms t)) l.place (λ n t at. ap l.place (sym (number_there s.terms n t (occur_distinct is.terms_are) at))) a of.0 of.2 (l.atoms of.0 of.1);
+            on_holds o rows s.terms concepts roles (λ t. l.place (number_of s.terms t)) l.place (λ n t at. ap l.place (sym (number_there s.terms n t (firsts_distinct is.terms_are) at))) a of.0 of.2 (l.atoms of.0 of.1);
       };
       folds = λ t c.
-          let member = occur_into is.terms_are t c in
+          let member = firsts_into is.terms_are t c in
           let at = place_of s.terms t member in
-          let number : number_of s.terms t ≡ member.0 = number_there s.terms member.0 t (occur_distinct is.terms_are) at in
+          let number : number_of s.terms t ≡ member.0 = number_there s.terms member.0 t (firsts_distinct is.terms_are) at in
           subst (λ (k : ℕ). Represents names generation (images t) (node_of (l.place k))) (sym number) (l.folds member.0 (images t) (image_at images s.terms member.0 t at));
     }

@@ -16,11 +16,11 @@ use Rattle.dl_base.specs.declared.query.Term.TheVariants as term
 use Rattle.dl_base.specs.declared.query.Atom.{Atom}
 use Rattle.dl_base.specs.declared.query.Atom.TheVariants as atom
 use Rattle.dl_base.proofs.RisingLemmas.{contains_cases, contains_later, contains_first}
-use Rattle.query_shape.specs.Shape.{Occur, no_term, known_term, new_term, NumbersAtom, IsShapeMatch, HoldsAt}
+use Rattle.query_shape.specs.Shape.{AreFirsts, no_item, known_item, new_item, NumbersAtom, IsShapeMatch, HoldsAt}
 use Rattle.query_shape.specs.ShapeLaws.{SameMatches, EachPlacing, ShapeOnce, XIsFirst}
 use Rattle.query_shape.specs.declared.layout.ShapeAtom.{ShapeAtom}
 use Rattle.query_shape.specs.declared.layout.ShapeAtom.TheVariants as shape
-use Rattle.query_shape.proofs.NumberingLemmas.{occur_distinct}
+use Rattle.query_shape.proofs.NumberingLemmas.{firsts_distinct}
 use Rattle.dl_base.proofs.PlaceLemmas.{one_place, zip_left, zip_right, distinct_head, distinct_tail}
 
 -- ---- rows at the images of terms
@@ -126,25 +126,25 @@ not_empty : {X : Type 0} (xs : List X) (x : X) → xs ++ x ∷ [] ≡ [] → ⊥
 not_empty [] x e = cc
 not_empty (y ∷ xs) x e = cc
 
-occur_once : {all distinct : List Term} → Occur all distinct → {every others : List Term} → Occur every others → all ≡ every → distinct ≡ others
-occur_once no_term no_term e = refl
-occur_once no_term (known_term {all = before} u p there) e = absurd (not_empty before u (sym e))
-occur_once no_term (new_term {all = before} u p absent) e = absurd (not_empty before u (sym e))
-occur_once (known_term {all = before} t o there) no_term e = absurd (not_empty before t e)
-occur_once (new_term {all = before} t o absent) no_term e = absurd (not_empty before t e)
-occur_once (known_term {all = before} {distinct = kept} t o there) (known_term {all = first} {distinct = others} u p also) e =
-    let parts = same_from_push before first t u e in occur_once o p parts.0
-occur_once (known_term {all = before} {distinct = kept} t o there) (new_term {all = first} {distinct = others} u p absent) e =
+firsts_once : {X : Type 0} {all distinct : List X} → AreFirsts all distinct → {every others : List X} → AreFirsts every others → all ≡ every → distinct ≡ others
+firsts_once no_item no_item e = refl
+firsts_once no_item (known_item {all = before} u p there) e = absurd (not_empty before u (sym e))
+firsts_once no_item (new_item {all = before} u p absent) e = absurd (not_empty before u (sym e))
+firsts_once {X = X} (known_item {all = before} t o there) no_item e = absurd (not_empty before t e)
+firsts_once {X = X} (new_item {all = before} t o absent) no_item e = absurd (not_empty before t e)
+firsts_once {X = X} (known_item {all = before} {distinct = kept} t o there) (known_item {all = first} {distinct = others} u p also) e =
+    let parts = same_from_push before first t u e in firsts_once o p parts.0
+firsts_once {X = X} (known_item {all = before} {distinct = kept} t o there) (new_item {all = first} {distinct = others} u p absent) e =
     let parts = same_from_push before first t u e in
-    let same : kept ≡ others = occur_once o p parts.0 in
-    absurd (absent (subst (λ (v : Term). Contains others v) parts.1 (subst (λ (ts : List Term). Contains ts t) same there)))
-occur_once (new_term {all = before} {distinct = kept} t o absent) (known_term {all = first} {distinct = others} u p there) e =
+    let same : kept ≡ others = firsts_once o p parts.0 in
+    absurd (absent (subst (λ (v : X). Contains others v) parts.1 (subst (λ (ts : List X). Contains ts t) same there)))
+firsts_once {X = X} (new_item {all = before} {distinct = kept} t o absent) (known_item {all = first} {distinct = others} u p there) e =
     let parts = same_from_push before first t u e in
-    let same : kept ≡ others = occur_once o p parts.0 in
-    absurd (absent (subst (λ (v : Term). Contains kept v) (sym parts.1) (subst (λ (ts : List Term). Contains ts u) (sym same) there)))
-occur_once (new_term {all = before} {distinct = kept} t o absent) (new_term {all = first} {distinct = others} u p also) e =
+    let same : kept ≡ others = firsts_once o p parts.0 in
+    absurd (absent (subst (λ (v : X). Contains kept v) (sym parts.1) (subst (λ (ts : List X). Contains ts u) (sym same) there)))
+firsts_once {X = X} (new_item {all = before} {distinct = kept} t o absent) (new_item {all = first} {distinct = others} u p also) e =
     let parts = same_from_push before first t u e in
-    let same : kept ≡ others = occur_once o p parts.0 in
+    let same : kept ≡ others = firsts_once o p parts.0 in
     λ i. same i ++ parts.1 i ∷ []
 
 module _ (o : Terminology) (ts : List Term) (concepts : AllPairs (λ x y. x ≢ y) o.concepts) (roles : AllPairs (λ x y. x ≢ y) o.roles) (distinct : AllPairs (λ t u. t ≢ u) ts) where
@@ -177,9 +177,9 @@ module _ (o : Terminology) (ts : List Term) (concepts : AllPairs (λ x y. x ≢ 
 
 pub shape_once : ShapeOnce
 shape_once o q s other concepts roles is too =
-    let same : s.terms ≡ other.terms = occur_once is.terms_are too.terms_are refl in
+    let same : s.terms ≡ other.terms = firsts_once is.terms_are too.terms_are refl in
     let also : AllZip (NumbersAtom o s.terms) q.atoms other.atoms = rw same too.atoms_are in
-    let atoms : s.atoms ≡ other.atoms = atoms_once o s.terms concepts roles (occur_distinct is.terms_are) q.atoms s.atoms other.atoms is.atoms_are also in
+    let atoms : s.atoms ≡ other.atoms = atoms_once o s.terms concepts roles (firsts_distinct is.terms_are) q.atoms s.atoms other.atoms is.atoms_are also in
     λ i. record { terms = same i; atoms = atoms i }
 
 -- ---- a small shape
@@ -207,6 +207,6 @@ x_is_known = (0, omega arith, refl)
 pub x_is_first : XIsFirst
 unfolding x y
 x_is_first = record {
-  terms_are = known_term x (new_term y (new_term x no_term (λ c. absurd (omega (arith, c.1)))) y_is_new) x_is_known;
+  terms_are = known_item x (new_item y (new_item x no_item (λ c. absurd (omega (arith, c.1)))) y_is_new) x_is_known;
   atoms_are = ((refl, refl), ((refl, refl, refl, refl), tt));
 }

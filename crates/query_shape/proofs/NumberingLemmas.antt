@@ -14,7 +14,7 @@ use Rattle.dl_base.specs.declared.query.Term.{Term}
 use Rattle.dl_base.specs.declared.query.Atom.{Atom}
 use Rattle.dl_base.specs.declared.query.Atom.TheVariants as atom
 use Rattle.dl_base.proofs.RisingLemmas.{contains_cases, contains_later, contains_first}
-use Rattle.query_shape.specs.Shape.{Occur, no_term, known_term, new_term, NumbersAtom, IsShapeOf, Layout, IsLayout, IsTermOf, IsBelow}
+use Rattle.query_shape.specs.Shape.{AreFirsts, no_item, known_item, new_item, NumbersAtom, IsShapeOf, Layout, IsLayout, IsTermOf, IsBelow}
 use Rattle.query_shape.specs.ShapeFault.{IsKnown, IsAtomFault, IsFirstFault, IsShapeFault}
 use Rattle.query_shape.specs.Numbering.{IsWith, NumbersTerm, IsNumberedAtom}
 use Rattle.query_shape.specs.declared.layout.ShapeAtom.{ShapeAtom}
@@ -31,9 +31,9 @@ numbered_known old new t n same at = record { with_it = inl (same, member_at old
 pub numbered_new : (old new : List Term) (t : Term) → new ≡ old ++ t ∷ [] → (Contains old t → ⊥) → NumbersTerm old t new (length old)
 numbered_new old new t is absent = record { with_it = inr (is, absent); there = rw is (last_place old t) }
 
-occur_with : (all old new : List Term) (t : Term) → IsWith old t new → Occur all old → Occur (all ++ t ∷ []) new
-occur_with all old new t (inl (same, there)) o = rw same (known_term t o there)
-occur_with all old new t (inr (is, absent)) o = rw is (new_term t o absent)
+firsts_with : (all old new : List Term) (t : Term) → IsWith old t new → AreFirsts all old → AreFirsts (all ++ t ∷ []) new
+firsts_with all old new t (inl (same, there)) o = rw same (known_item t o there)
+firsts_with all old new t (inr (is, absent)) o = rw is (new_item t o absent)
 
 added_with : (old new : List Term) (t : Term) → IsWith old t new → (added : List Term) × (new ≡ old ++ added)
 added_with old new t (inl (same, there)) = ([], same ∙ sym (append-nil old))
@@ -45,7 +45,7 @@ pub numbered_concept : (o : Terminology) (old new : List Term) (name : List ℕ)
     → IsNumberedAtom o old (atom.Concept name t) new (shape.Concept c n)
 numbered_concept o old new name t c n at i =
     let added = added_with old new t i.with_it in
-    record { added = added.0; last = added.1; occur = λ all before. occur_with all old new t i.with_it before; numbers = (at, i.there) }
+    record { added = added.0; last = added.1; occur = λ all before. firsts_with all old new t i.with_it before; numbers = (at, i.there) }
 
 pub numbered_role : (o : Terminology) (old mid new : List Term) (name : List ℕ) (t u : Term) (r : Role) (n m : ℕ) → slice_get o.roles r.name ≡ Some name → r.inverse ≡ false
     → NumbersTerm old t mid n → NumbersTerm mid u new m → IsNumberedAtom o old (atom.Role name t u) new (shape.Role r n m)
@@ -57,7 +57,7 @@ numbered_role o old mid new name t u r n m at direct i j =
     record {
       added = first.0 ++ second.0;
       last = last;
-      occur = λ all before. subst (λ (ts : List Term). Occur ts new) (append_assoc all (t ∷ []) (u ∷ [])) (occur_with (all ++ t ∷ []) mid new u j.with_it (occur_with all old mid t i.with_it before));
+      occur = λ all before. subst (λ (ts : List Term). AreFirsts ts new) (append_assoc all (t ∷ []) (u ∷ [])) (firsts_with (all ++ t ∷ []) mid new u j.with_it (firsts_with all old mid t i.with_it before));
       numbers = (at, direct, stays, j.there);
     }
 
@@ -80,7 +80,7 @@ abbrev pub IsShapeUpTo : Terminology → List Atom → ℕ → List Term → Lis
 IsShapeUpTo o atoms k ts ss = IsShapeOf o (record { answers = []; atoms = take k atoms }) (record { terms = ts; atoms = ss })
 
 pub shape_none : (o : Terminology) (atoms : List Atom) → IsShapeUpTo o atoms 0 [] []
-shape_none o atoms = record { terms_are = no_term; atoms_are = tt }
+shape_none o atoms = record { terms_are = no_item; atoms_are = tt }
 
 pub shape_more : (o : Terminology) (atoms : List Atom) (k : ℕ) (a : Atom) (ts new : List Term) (ss : List ShapeAtom) (s : ShapeAtom) → k < length atoms → a ≡ get_or atoms k a
     → IsShapeUpTo o atoms k ts ss → IsNumberedAtom o ts a new s → IsShapeUpTo o atoms (k + 1) new (ss ++ s ∷ [])
@@ -103,12 +103,12 @@ shape_all o q k ts ss past h =
 
 -- ---- how many terms there are
 
-occur_length : {all distinct : List Term} → Occur all distinct → length distinct ≤ length all
-occur_length no_term = omega arith
-occur_length (known_term {all = before} {distinct = kept} t o there) =
-    let few : length kept ≤ length before = occur_length o in rw length-append (omega arith)
-occur_length (new_term {all = before} {distinct = kept} t o absent) =
-    let few : length kept ≤ length before = occur_length o in rw (length-append before (t ∷ []), length-append kept (t ∷ [])) (omega arith)
+firsts_length : {X : Type 0} {all distinct : List X} → AreFirsts all distinct → length distinct ≤ length all
+firsts_length no_item = omega arith
+firsts_length (known_item {all = before} {distinct = kept} t o there) =
+    let few : length kept ≤ length before = firsts_length o in rw length-append (omega arith)
+firsts_length (new_item {all = before} {distinct = kept} t o absent) =
+    let few : length kept ≤ length before = firsts_length o in rw (length-append before (t ∷ []), length-append kept (t ∷ [])) (omega arith)
 
 two_terms : (a : Atom) → length (terms_of a) ≤ 2
 two_terms (atom.Concept name t) = omega arith
@@ -123,41 +123,41 @@ terms_length (a ∷ as') =
 
 pub few_terms : (o : Terminology) (atoms : List Atom) (k : ℕ) (ts : List Term) (ss : List ShapeAtom) → IsShapeUpTo o atoms k ts ss → length ts ≤ 2 * length atoms
 few_terms o atoms k ts ss h =
-    let few : length ts ≤ length (flat_map terms_of (take k atoms)) = occur_length h.terms_are in
+    let few : length ts ≤ length (flat_map terms_of (take k atoms)) = firsts_length h.terms_are in
     let double : length (flat_map terms_of (take k atoms)) ≤ 2 * length (take k atoms) = terms_length (take k atoms) in
     let cut : length (take k atoms) ≡ min k (length atoms) = length-take k atoms in
     omega arith
 
 -- ---- members
 
-pub occur_from : {all distinct : List Term} → Occur all distinct → (t : Term) → Contains distinct t → Contains all t
-occur_from no_term t c = c
-occur_from (known_term {all = before} {distinct = kept} u o there) t c = Contains-append_left before (u ∷ []) t (occur_from o t c)
-occur_from (new_term {all = before} {distinct = kept} u o absent) t c = by (Contains-push_cases kept u t c) (λ d. occur_from o t d)
+pub firsts_from : {X : Type 0} {all distinct : List X} → AreFirsts all distinct → (t : X) → Contains distinct t → Contains all t
+firsts_from no_item t c = c
+firsts_from {X = X} (known_item {all = before} {distinct = kept} u o there) t c = Contains-append_left before (u ∷ []) t (firsts_from o t c)
+firsts_from {X = X} (new_item {all = before} {distinct = kept} u o absent) t c = by (Contains-push_cases kept u t c) (λ d. firsts_from o t d)
   where
     by : Contains kept t ⊎ (u ≡ t) → (Contains kept t → Contains before t) → Contains (before ++ u ∷ []) t
     by (inl d) rec = Contains-append_left before (u ∷ []) t (rec d)
-    by (inr e) rec = subst (λ (v : Term). Contains (before ++ u ∷ []) v) e (Contains-push before u)
+    by (inr e) rec = subst (λ (v : X). Contains (before ++ u ∷ []) v) e (Contains-push before u)
 
-pub occur_into : {all distinct : List Term} → Occur all distinct → (t : Term) → Contains all t → Contains distinct t
-occur_into no_term t c = c
-occur_into (known_term {all = before} {distinct = kept} u o there) t c = by (Contains-push_cases before u t c) (λ d. occur_into o t d)
+pub firsts_into : {X : Type 0} {all distinct : List X} → AreFirsts all distinct → (t : X) → Contains all t → Contains distinct t
+firsts_into no_item t c = c
+firsts_into {X = X} (known_item {all = before} {distinct = kept} u o there) t c = by (Contains-push_cases before u t c) (λ d. firsts_into o t d)
   where
     by : Contains before t ⊎ (u ≡ t) → (Contains before t → Contains kept t) → Contains kept t
     by (inl d) rec = rec d
-    by (inr e) rec = subst (λ (v : Term). Contains kept v) e there
-occur_into (new_term {all = before} {distinct = kept} u o absent) t c = by (Contains-push_cases before u t c) (λ d. occur_into o t d)
+    by (inr e) rec = subst (λ (v : X). Contains kept v) e there
+firsts_into {X = X} (new_item {all = before} {distinct = kept} u o absent) t c = by (Contains-push_cases before u t c) (λ d. firsts_into o t d)
   where
     by : Contains before t ⊎ (u ≡ t) → (Contains before t → Contains kept t) → Contains (kept ++ u ∷ []) t
     by (inl d) rec = Contains-append_left kept (u ∷ []) t (rec d)
-    by (inr e) rec = subst (λ (v : Term). Contains (kept ++ u ∷ []) v) e (Contains-push kept u)
+    by (inr e) rec = subst (λ (v : X). Contains (kept ++ u ∷ []) v) e (Contains-push kept u)
 
--- the terms of a layout are distinct
-pub occur_distinct : {all distinct : List Term} → Occur all distinct → AllPairs (λ t u. t ≢ u) distinct
-occur_distinct no_term = λ i j d lt below. absurd (omega (arith, below))
-occur_distinct (known_term {all = before} {distinct = kept} u o there) = occur_distinct o
-occur_distinct (new_term {all = before} {distinct = kept} u o absent) =
-    all_pairs_push (λ t v. t ≢ v) kept u (occur_distinct o) (λ k d below e. absent (k, below, get_or_default kept k u d below ∙ e))
+-- no item comes twice
+pub firsts_distinct : {X : Type 0} {all distinct : List X} → AreFirsts all distinct → AllPairs (λ t u. t ≢ u) distinct
+firsts_distinct no_item = λ i j d lt below. absurd (omega (arith, below))
+firsts_distinct (known_item {all = before} {distinct = kept} u o there) = firsts_distinct o
+firsts_distinct (new_item {all = before} {distinct = kept} u o absent) =
+    all_pairs_push (λ t v. t ≢ v) kept u (firsts_distinct o) (λ k d below e. absent (k, below, get_or_default kept k u d below ∙ e))
 
 -- the shape atom of an atom in which the term is has its number
 number_in : (o : Terminology) (ts : List Term) (a : Atom) (s : ShapeAtom) (t : Term) (k : ℕ) → AllPairs (λ t u. t ≢ u) ts → NumbersAtom o ts a s → Contains (terms_of a) t → slice_get ts k ≡ Some t
@@ -206,9 +206,9 @@ all_below o ts (a ∷ as') (s ∷ ss) all = All-cons (IsBelow (length ts)) s ss 
 pub layout_of : (o : Terminology) (q : Question) (s : Layout) → IsQuery q → IsShapeOf o q s → IsLayout s
 layout_of o q s is h =
     let same : length s.atoms ≡ length q.atoms = zip_length (NumbersAtom o s.terms) q.atoms s.atoms h.atoms_are in
-    let distinct : AllPairs (λ t u. t ≢ u) s.terms = occur_distinct h.terms_are in
+    let distinct : AllPairs (λ t u. t ≢ u) s.terms = firsts_distinct h.terms_are in
     let few : length s.terms ≤ length is.distinct.few =
-    no_more s.terms is.distinct.few distinct (λ t c. All-contains (Contains is.distinct.few) (terms q) t is.distinct.each (occur_from h.terms_are t c)) in
+    no_more s.terms is.distinct.few distinct (λ t c. All-contains (Contains is.distinct.few) (terms q) t is.distinct.each (firsts_from h.terms_are t c)) in
     record {
       some = omega (arith, is.some);
       atoms = omega (arith, is.atoms);
@@ -219,7 +219,7 @@ layout_of o q s is h =
     }
   where
     found : (k : ℕ) (t : Term) → slice_get s.terms k ≡ Some t → (a : ShapeAtom) × Contains s.atoms a × IsTermOf k a
-    found k t at = used_in o s.terms q.atoms s.atoms t k (occur_distinct h.terms_are) h.atoms_are at (occur_from h.terms_are t (member_at s.terms k t at))
+    found k t at = used_in o s.terms q.atoms s.atoms t k (firsts_distinct h.terms_are) h.atoms_are at (firsts_from h.terms_are t (member_at s.terms k t at))
 
     used : (k : ℕ) → k < length s.terms → (r : Option Term) → slice_get s.terms k ≡ r → (a : ShapeAtom) × Contains s.atoms a × IsTermOf k a
     used k below (Some t) at = found k t at

@@ -4,7 +4,7 @@ use Rattle.dl_base.specs.Ontology.{Terminology}
 use Rattle.dl_base.specs.Query.{terms_of}
 use Rattle.dl_base.specs.declared.query.Term.{Term}
 use Rattle.dl_base.specs.declared.query.Atom.{Atom}
-use Rattle.query_shape.specs.Shape.{Occur, NumbersAtom}
+use Rattle.query_shape.specs.Shape.{AreFirsts, NumbersAtom}
 use Rattle.query_shape.specs.declared.layout.ShapeAtom.{ShapeAtom}
 
 -- the terms are as they were where they have this one, and else it goes last
@@ -20,5 +20,5 @@ pub record NumbersTerm (old : List Term) (t : Term) (new : List Term) (number : 
 pub record IsNumberedAtom (o : Terminology) (old : List Term) (a : Atom) (new : List Term) (s : ShapeAtom) : Type 0 where
   pub added : List Term
   pub last : new ≡ old ++ added
-  pub occur : (all : List Term) → Occur all old → Occur (all ++ terms_of a) new
+  pub occur : (all : List Term) → AreFirsts all old → AreFirsts (all ++ terms_of a) new
   pub numbers : NumbersAtom o new a s

@@ -16,11 +16,11 @@ pub record Layout : Type 0 where
   pub terms : List Term
   pub atoms : List ShapeAtom
 
--- the distinct ones of these terms, in the order in which they first occur
-pub data Occur : List Term → List Term → Type 0 where
-  no_term : Occur [] []
-  known_term : {all distinct : List Term} (t : Term) → Occur all distinct → Contains distinct t → Occur (all ++ t ∷ []) distinct
-  new_term : {all distinct : List Term} (t : Term) → Occur all distinct → (Contains distinct t → ⊥) → Occur (all ++ t ∷ []) (distinct ++ t ∷ [])
+-- the distinct ones of these items, in the order in which they first occur
+pub data AreFirsts {X : Type 0} : List X → List X → Type 0 where
+  no_item : AreFirsts [] []
+  known_item : {all distinct : List X} (x : X) → AreFirsts all distinct → Contains distinct x → AreFirsts (all ++ x ∷ []) distinct
+  new_item : {all distinct : List X} (x : X) → AreFirsts all distinct → (Contains distinct x → ⊥) → AreFirsts (all ++ x ∷ []) (distinct ++ x ∷ [])
 
 -- the atom by the place of its name and the numbers of its terms
 abbrev pub NumbersAtom : Terminology → List Term → Atom → ShapeAtom → Type 0
@@ -31,7 +31,7 @@ NumbersAtom o ts (atom.Role name t u) (shape.Concept c n) = ⊥
 
 -- the shape of the query in the ontology
 pub record IsShapeOf (o : Terminology) (q : Question) (s : Layout) : Type 0 where
-  pub terms_are : Occur (terms q) s.terms
+  pub terms_are : AreFirsts (terms q) s.terms
   pub atoms_are : AllZip (NumbersAtom o s.terms) q.atoms s.atoms
 
 -- the term of this number is in the atom

@@ -5,19 +5,13 @@ use Rattle.dl_base.specs.declared.element.Elem.{Elem}
 use Rattle.query_shape.specs.declared.layout.ShapeAtom.{ShapeAtom}
 use Rattle.query_shape.specs.declared.layout.ShapeAtom.TheVariants as shape
 use Rattle.query_shape.proofs.MatchList.{Decided, decide_as, decide_both, decide_nat}
-use Rattle.match_filter.specs.Links.{IsOn, IsLinkOf, IsLink}
+use Rattle.match_filter.specs.Links.{IsLinkOf, IsLink}
+use Rattle.query_shape.specs.TreeWitness.{IsOn}
 use Rattle.match_filter.specs.Joining.{Joined, AreClasses, IsClosed, AreUnlike}
+use Rattle.match_filter.proofs.LinkLemmas.{one_link}
 use Rattle.match_filter.proofs.Choices.{decide_below, decide_on, decide_some}
 use Rattle.match_filter.proofs.ClassLemmas.{AreSound, own_sound, still_sound, renumbered_falls, sound_closed}
 use Rattle.match_filter.proofs.Totals.{total}
-
--- an atom has one parent and child
-one_link : (images : List Elem) (a : ShapeAtom) (p c q d : ℕ) → IsLinkOf images a p c → IsLinkOf images a q d → (p ≡ q) × (c ≡ d)
-one_link images (shape.Concept x n) p c q d l m = absurd l
-one_link images (shape.Role r n m) p c q d (inl l) (inl k) = (l.0 ∙ sym k.0, l.1 ∙ sym k.1)
-one_link images (shape.Role r n m) p c q d (inl l) (inr k) = absurd (k.2 l.2)
-one_link images (shape.Role r n m) p c q d (inr l) (inl k) = absurd (l.2 k.2)
-one_link images (shape.Role r n m) p c q d (inr l) (inr k) = (l.0 ∙ sym k.0, l.1 ∙ sym k.1)
 
 -- the first values of a function
 listed : (ℕ → ℕ) → ℕ → List ℕ

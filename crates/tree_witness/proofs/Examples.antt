@@ -7,7 +7,7 @@ use Rattle.dl_base.specs.declared.element.Elem.{Elem}
 use Rattle.dl_base.specs.declared.element.Elem.TheVariants as elem
 use Rattle.dl_base.proofs.RisingLemmas.{contains_cases}
 use Rattle.query_shape.specs.declared.layout.ShapeAtom.TheVariants as shape
-use Rattle.tree_witness.specs.TreeWitness.{IsOriented, TreeWitness, top, first, back, further, HasTreeWitness, TopsAgree}
+use Rattle.query_shape.specs.TreeWitness.{IsOriented, TreeWitness, top, first, back, further, HasTreeWitness, TopsAgree}
 use Rattle.tree_witness.specs.TreeLaws.{role_r, role_s, LoopHasNone, BackAtTheTop, two_parents, around, SharedIsNoJoin, OneIsBoth}
 
 pub loop_has_none : LoopHasNone

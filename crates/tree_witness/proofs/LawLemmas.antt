@@ -10,8 +10,8 @@ use Rattle.dl_base.specs.declared.element.Elem.{Elem}
 use Rattle.dl_base.specs.declared.row.NamedRow.{NamedRow}
 use Rattle.query_shape.specs.Shape.{Layout, IsLayout, IsShapeMatch, IsBelow}
 use Rattle.query_shape.specs.Lifting.{LiftsShape}
-use Rattle.match_filter.specs.LiftingTest.{DecidesLifting}
-use Rattle.tree_witness.specs.TreeWitness.{Passes}
+use Rattle.query_shape.specs.Lifting.{DecidesLifting}
+use Rattle.query_shape.specs.TreeWitness.{Passes}
 use Rattle.query_shape.specs.declared.layout.ShapeAtom.{ShapeAtom}
 use Rattle.match_filter.specs.Links.{IsLink}
 use Rattle.match_filter.proofs.Sufficiency.{link_within, makes_placing}

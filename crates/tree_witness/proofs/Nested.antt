@@ -12,13 +12,12 @@ use Rattle.dl_base.specs.declared.row.NamedRow.{NamedRow}
 use Rattle.dl_base.proofs.RoleLemmas.{inverse_twice}
 use Rattle.dl_base.proofs.ShortLemmas.{node_once}
 use Rattle.query_shape.specs.Shape.{HoldsAt}
-use Rattle.match_filter.specs.Links.{IsOn}
-use Rattle.tree_witness.specs.TreeWitness.{IsOriented, TreeWitness, top, first, back, further, Passes}
+use Rattle.query_shape.specs.TreeWitness.{IsOn, IsOriented, TreeWitness, top, first, back, further, Passes}
 use Rattle.query_shape.specs.declared.layout.ShapeAtom.{ShapeAtom}
 use Rattle.query_shape.specs.declared.layout.ShapeAtom.TheVariants as shape
 use Rattle.query_shape.proofs.MatchList.{Decided}
 use Rattle.match_filter.proofs.Leads.{IsRoleRow}
-use Rattle.match_filter.proofs.Nodes.{PointsTo, link_points, row_between}
+use Rattle.match_filter.proofs.Nodes.{PointsTo, link_points, node_of_on, row_between}
 use Rattle.match_filter.proofs.Choices.{decide_on, role_of}
 use Rattle.tree_witness.proofs.Turned.{on_once, oriented_holds, hangs_behind}
 
@@ -31,12 +30,6 @@ record HangsAt (atoms : List ShapeAtom) (images : List Elem) (p : Role) (Above :
   on : IsOn images p child
   hangs : TreeWitness atoms p parent s (p ∷ [])
   here : IsOn images p s
-
--- the node of an image on the witness of a role
-witness_of : (names : List (List ℕ)) (generation : Role → ℕ) (images : List Elem) (k : ℕ) (e : Elem) (x : Node) (r : Role) → slice_get images k ≡ Some e → Represents names generation e x → IsOn images r k → x ≡ WitnessOf r
-witness_of names generation images k (elem.Named n) x r at is (w, at_w, role) = absurd (let named : Some (elem.Named n) ≡ Some (elem.Shared w) = sym at ∙ at_w in cc)
-witness_of names generation images k (elem.Shared v) (Individual a) r at is on = absurd is
-witness_of names generation images k (elem.Shared v) (WitnessOf s) r at is (w, at_w, role) = ap WitnessOf (sym is.0 ∙ (ap role_of (same_Some (elem.Shared v) (elem.Shared w) (sym at ∙ at_w)) ∙ role))
 
 module _ (o : Terminology) (rows : List NamedRow) (names : List (List ℕ)) (generation : Role → ℕ) (table : List TableRow) (completed : AreCompleted o rows names generation table)
     (images : List Elem) (atoms : List ShapeAtom) (holds : (a : ShapeAtom) → Contains atoms a → HoldsAt table images a) where
@@ -54,7 +47,7 @@ module _ (o : Terminology) (rows : List NamedRow) (names : List (List ℕ)) (gen
 
       not_back : IsOn images (inverse r) s → ⊥
       not_back on =
-          (subst (λ (n : Node). NodePoints o rows n r) (witness_of names generation images s e x (inverse r) at is on) points).1.not_back (sym (inverse_twice r))
+          (subst (λ (n : Node). NodePoints o rows n r) (node_of_on names generation images s e x (inverse r) at is on) points).1.not_back (sym (inverse_twice r))
 
       by : Decided (IsOn images r u) → IsOn images r u
       by (inl on) = on
@@ -69,7 +62,7 @@ module _ (o : Terminology) (rows : List NamedRow) (names : List (List ℕ)) (gen
     where
       no_individual : (e : Elem) (x y : Node) → slice_get images s ≡ Some e → Represents names generation e x → IsRoleRow o rows p x y → ⊥
       no_individual e x y at is there =
-          let witness : x ≡ WitnessOf q = witness_of names generation images s e x q at is on in
+          let witness : x ≡ WitnessOf q = node_of_on names generation images s e x q at is on in
           let individual : WitnessOf q ≡ Individual there.from = sym witness ∙ there.from_is in
           cc
 
@@ -93,7 +86,7 @@ module _ (o : Terminology) (rows : List NamedRow) (names : List (List ℕ)) (gen
   pub not_back_down : (q r : Role) (t u : ℕ) → IsOriented atoms r t u → IsOn images r u → IsOn images q t → r ≢ inverse q
   not_back_down q r t u atom on top_on =
       let (e, x, at, is, points) = points_down r t u atom on in
-      (subst (λ (n : Node). NodePoints o rows n r) (witness_of names generation images t e x q at is top_on) points).1.not_back
+      (subst (λ (n : Node). NodePoints o rows n r) (node_of_on names generation images t e x q at is top_on) points).1.not_back
 
   -- a term with the image of another is on the same witness
   moved : (q : Role) (u s : ℕ) → slice_get images u ≡ slice_get images s → IsOn images q s → IsOn images q u

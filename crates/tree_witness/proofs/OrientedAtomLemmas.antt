@@ -8,7 +8,7 @@ use Rattle.dl_base.proofs.RisingLemmas.{contains_cases, contains_first, contains
 use Rattle.query_shape.specs.Shape.{IsBelow}
 use Rattle.query_shape.specs.declared.layout.ShapeAtom.{ShapeAtom}
 use Rattle.query_shape.specs.declared.layout.ShapeAtom.TheVariants as shape
-use Rattle.tree_witness.specs.TreeWitness.{IsOriented}
+use Rattle.query_shape.specs.TreeWitness.{IsOriented}
 use Rattle.tree_witness.specs.Trees.{both_ways, oriented_atoms, IsOrientedBelow}
 use Rattle.tree_witness.specs.declared.oriented.OrientedAtom.{OrientedAtom}
 

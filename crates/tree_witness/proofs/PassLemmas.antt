@@ -3,11 +3,10 @@ use Rattle.std.proofs.Common.{◌≡◌, List, [], get_or, Option, Some, None, s
 use Rattle.std.proofs.lemmas.List.Elements.{All-contains, Contains-get_or}
 use Rattle.dl_base.specs.declared.concept.Role.{Role}
 use Rattle.dl_base.specs.declared.element.Elem.{Elem}
-use Rattle.match_filter.specs.Links.{IsOn}
-use Rattle.tree_witness.specs.TreeWitness.{TreeWitness, HasTreeWitness, TopsAgree, Passes}
+use Rattle.query_shape.specs.TreeWitness.{IsOn, TreeWitness, HasTreeWitness, TopsAgree, Passes}
 use Rattle.dl_base.proofs.PlaceLemmas.{map_contains, map_from}
 use Rattle.query_shape.specs.declared.layout.ShapeAtom.{ShapeAtom}
-use Rattle.tree_witness.specs.Trees.{IsWitnessOf, TopAgrees, PassesEntry, PassesBy}
+use Rattle.tree_witness.specs.Trees.{IsTreeWitnessOf, TopAgrees, PassesEntry, PassesBy}
 use Rattle.tree_witness.specs.TreeLaws.{PassesByTrees}
 use Rattle.tree_witness.specs.declared.oriented.OrientedAtom.{OrientedAtom}
 use Rattle.tree_witness.specs.declared.tree.ReachedTerm.{ReachedTerm}
@@ -22,11 +21,11 @@ module _ (images : List Elem) (atoms : List ShapeAtom) where
   abbrev PassesAt : OrientedAtom → Type 0
   PassesAt a = HasTreeWitness atoms a.role a.from × TopsAgree atoms images a.role a.from
 
-  into_atom : (a : OrientedAtom) (tree : Option (List ReachedTerm)) → IsWitnessOf atoms a tree → MatchOption tree ⊥ (All (TopAgrees images a.from)) → PassesAt a
+  into_atom : (a : OrientedAtom) (tree : Option (List ReachedTerm)) → IsTreeWitnessOf atoms a tree → MatchOption tree ⊥ (All (TopAgrees images a.from)) → PassesAt a
   into_atom a None is pass = absurd pass
   into_atom a (Some list) (has, reached) pass = (has, λ s h. All-contains (TopAgrees images a.from) list (record { term = s; roles = [] }) pass ((reached.each (record { term = s; roles = [] })).1 h) refl)
 
-  from_atom : (a : OrientedAtom) (tree : Option (List ReachedTerm)) → IsWitnessOf atoms a tree → PassesAt a → MatchOption tree ⊥ (All (TopAgrees images a.from))
+  from_atom : (a : OrientedAtom) (tree : Option (List ReachedTerm)) → IsTreeWitnessOf atoms a tree → PassesAt a → MatchOption tree ⊥ (All (TopAgrees images a.from))
   from_atom a None none pass = none pass.0
   from_atom a (Some list) (has, reached) pass = λ k d lt roles. at (get_or list k d) (Contains-get_or list k d lt) roles
     where
@@ -44,7 +43,7 @@ passes_by_trees s t images are = (into, back)
 
         by : (e : TreeEntry) × Contains t.entries e × (a ≡ e.atom) → HasTreeWitness s.atoms r m × TopsAgree s.atoms images r m
         by (e, there, is) =
-            into_atom images s.atoms a e.tree (subst (λ (x : OrientedAtom). IsWitnessOf s.atoms x e.tree) (sym is) (All-contains (λ (e : TreeEntry). IsWitnessOf s.atoms e.atom e.tree) t.entries e are.trees there))
+            into_atom images s.atoms a e.tree (subst (λ (x : OrientedAtom). IsTreeWitnessOf s.atoms x e.tree) (sym is) (All-contains (λ (e : TreeEntry). IsTreeWitnessOf s.atoms e.atom e.tree) t.entries e are.trees there))
             (subst (λ (x : OrientedAtom). IsOn images x.role x.to → MatchOption e.tree ⊥ (All (TopAgrees images x.from))) (sym is) (All-contains (PassesEntry images) t.entries e pass there) on)
 
     back : Passes s.atoms images → PassesBy t images
@@ -52,5 +51,5 @@ passes_by_trees s t images are = (into, back)
       where
         at : (e : TreeEntry) → Contains t.entries e → PassesEntry images e
         at e there on =
-            from_atom images s.atoms e.atom e.tree (All-contains (λ (e : TreeEntry). IsWitnessOf s.atoms e.atom e.tree) t.entries e are.trees there)
+            from_atom images s.atoms e.atom e.tree (All-contains (λ (e : TreeEntry). IsTreeWitnessOf s.atoms e.atom e.tree) t.entries e are.trees there)
             (pass e.atom.role e.atom.from e.atom.to (oriented_from s.atoms e.atom (subst (λ (as' : List OrientedAtom). Contains as' e.atom) are.order (map_contains atom_in t.entries e there))) on)

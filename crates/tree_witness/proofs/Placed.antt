@@ -17,8 +17,7 @@ use Rattle.dl_base.proofs.RoleLemmas.{inverse_twice}
 use Rattle.dl_base.proofs.ShortLemmas.{elem_once}
 use Rattle.query_shape.specs.Shape.{IsBelow}
 use Rattle.query_shape.specs.Lifting.{HoldsOn}
-use Rattle.match_filter.specs.Links.{IsOn}
-use Rattle.tree_witness.specs.TreeWitness.{IsOriented, TreeWitness, top, first, back, further, HasTreeWitness, TopsAgree, Passes}
+use Rattle.query_shape.specs.TreeWitness.{IsOn, IsOriented, TreeWitness, top, first, back, further, HasTreeWitness, TopsAgree, Passes}
 use Rattle.query_shape.specs.declared.layout.ShapeAtom.{ShapeAtom}
 use Rattle.query_shape.specs.declared.layout.ShapeAtom.TheVariants as shape
 use Rattle.tree_witness.proofs.Turned.{oriented_below}

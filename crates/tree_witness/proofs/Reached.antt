@@ -10,8 +10,7 @@ use Rattle.dl_base.specs.declared.element.Elem.{Elem}
 use Rattle.dl_base.specs.declared.row.NamedRow.{NamedRow}
 use Rattle.dl_base.proofs.RisingLemmas.{contains_cases}
 use Rattle.query_shape.specs.Shape.{HoldsAt}
-use Rattle.match_filter.specs.Links.{IsOn}
-use Rattle.tree_witness.specs.TreeWitness.{IsOriented, TreeWitness, top, first, back, further, Passes}
+use Rattle.query_shape.specs.TreeWitness.{IsOn, IsOriented, TreeWitness, top, first, back, further, Passes}
 use Rattle.query_shape.specs.declared.layout.ShapeAtom.{ShapeAtom}
 use Rattle.query_shape.specs.declared.layout.ShapeAtom.TheVariants as shape
 use Rattle.match_filter.specs.Links.{IsLinkOf, IsLink}

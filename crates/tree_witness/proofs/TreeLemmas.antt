@@ -8,7 +8,7 @@ use Rattle.dl_base.specs.Derivation.{inverse}
 use Rattle.dl_base.specs.declared.concept.Role.{Role}
 use Rattle.dl_base.proofs.RoleLemmas.{one_role_or_two}
 use Rattle.dl_base.proofs.RowLemmas.{contains_cut}
-use Rattle.tree_witness.specs.TreeWitness.{IsOriented, TreeWitness, top, first, back, further, HasTreeWitness}
+use Rattle.query_shape.specs.TreeWitness.{IsOriented, TreeWitness, top, first, back, further, HasTreeWitness}
 use Rattle.query_shape.specs.declared.layout.ShapeAtom.{ShapeAtom}
 use Rattle.dl_base.proofs.PlaceLemmas.{map_from, place_of, one_place, member_at}
 use Rattle.tree_witness.specs.Trees.{oriented_atoms, IsOrientedBelow, IsStep, CanStep, HasTerm, Extends, IsThere, IsOpen, IsGrown, IsNext, IsTreeOf}

@@ -8,8 +8,7 @@ use Rattle.dl_base.specs.declared.element.Elem.{Elem}
 use Rattle.dl_base.specs.declared.element.Elem.TheVariants as elem
 use Rattle.dl_base.proofs.RoleLemmas.{inverse_twice}
 use Rattle.query_shape.specs.Shape.{HoldsAt, IsBelow}
-use Rattle.match_filter.specs.Links.{IsOn}
-use Rattle.tree_witness.specs.TreeWitness.{IsOriented, TreeWitness, top, first, back, further}
+use Rattle.query_shape.specs.TreeWitness.{IsOn, IsOriented, TreeWitness, top, first, back, further}
 use Rattle.query_shape.specs.declared.layout.ShapeAtom.{ShapeAtom}
 use Rattle.query_shape.specs.declared.layout.ShapeAtom.TheVariants as shape
 use Rattle.match_filter.proofs.Choices.{role_of}

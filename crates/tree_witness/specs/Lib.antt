@@ -1,3 +1,2 @@
-pub mod TreeWitness
 pub mod Trees
 pub mod TreeLaws

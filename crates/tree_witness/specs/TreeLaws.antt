@@ -11,7 +11,7 @@ use Rattle.query_shape.specs.Shape.{Layout, IsLayout, IsShapeMatch}
 use Rattle.query_shape.specs.Lifting.{LiftsShape}
 use Rattle.query_shape.specs.declared.layout.ShapeAtom.{ShapeAtom}
 use Rattle.query_shape.specs.declared.layout.ShapeAtom.TheVariants as shape
-use Rattle.tree_witness.specs.TreeWitness.{TreeWitness, HasTreeWitness, Passes}
+use Rattle.query_shape.specs.TreeWitness.{TreeWitness, HasTreeWitness, Passes}
 use Rattle.tree_witness.specs.Trees.{Trees, AreTreesOf, PassesBy}
 
 -- a match of completed tables whose individuals have distinct names passes exactly where it lifts

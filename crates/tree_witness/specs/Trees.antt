@@ -7,8 +7,7 @@ use Rattle.dl_base.specs.declared.element.Elem.{Elem}
 use Rattle.query_shape.specs.Shape.{Layout}
 use Rattle.query_shape.specs.declared.layout.ShapeAtom.{ShapeAtom}
 use Rattle.query_shape.specs.declared.layout.ShapeAtom.TheVariants as shape
-use Rattle.match_filter.specs.Links.{IsOn}
-use Rattle.tree_witness.specs.TreeWitness.{TreeWitness, HasTreeWitness}
+use Rattle.query_shape.specs.TreeWitness.{IsOn, TreeWitness, HasTreeWitness}
 use Rattle.tree_witness.specs.declared.oriented.OrientedAtom.{OrientedAtom}
 use Rattle.tree_witness.specs.declared.tree.ReachedTerm.{ReachedTerm}
 use Rattle.tree_witness.specs.declared.trees.TreeEntry.{TreeEntry}
@@ -83,13 +82,13 @@ pub record AreReached (atoms : List ShapeAtom) (r : Role) (t : ℕ) (tree : List
   pub once : AllPairs (λ n m. n ≢ m) (map (λ h. h.term) tree)
 
 -- the tree witness of the oriented atom, or none where there is none
-abbrev pub IsWitnessOf : List ShapeAtom → OrientedAtom → Option (List ReachedTerm) → Type 0
-IsWitnessOf atoms a tree =
+abbrev pub IsTreeWitnessOf : List ShapeAtom → OrientedAtom → Option (List ReachedTerm) → Type 0
+IsTreeWitnessOf atoms a tree =
     MatchOption tree (HasTreeWitness atoms a.role a.from → ⊥) (λ list. HasTreeWitness atoms a.role a.from × AreReached atoms a.role a.from list)
 
 -- the same where these are the oriented atoms of some atoms
 abbrev pub IsTreeOf : List OrientedAtom → OrientedAtom → Option (List ReachedTerm) → Type 0
-IsTreeOf oriented root tree = (atoms : List ShapeAtom) → oriented ≡ oriented_atoms atoms → IsWitnessOf atoms root tree
+IsTreeOf oriented root tree = (atoms : List ShapeAtom) → oriented ≡ oriented_atoms atoms → IsTreeWitnessOf atoms root tree
 
 -- ---- all trees of a shape
 
@@ -118,7 +117,7 @@ pub record AreEntries (terms : ℕ) (oriented : List OrientedAtom) (entries : Li
 pub record AreTreesOf (s : Layout) (t : Trees) : Type 0 where
   pub terms : t.terms ≡ length s.terms
   pub order : map (λ e. e.atom) t.entries ≡ oriented_atoms s.atoms
-  pub trees : All (λ e. IsWitnessOf s.atoms e.atom e.tree) t.entries
+  pub trees : All (λ e. IsTreeWitnessOf s.atoms e.atom e.tree) t.entries
 
 -- ---- the test
 

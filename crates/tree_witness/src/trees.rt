@@ -1,13 +1,12 @@
 //! The tree witnesses of a shape, and the test by them.
 ghost use Rattle.std.specs.Prelude.{◌≡◌, ◌↔◌, ◌<◌, ℕ, length, All, IfOk, IsTrue};
 ghost use Rattle.query_shape.specs.Shape.{Layout, IsLayout};
-ghost use Rattle.match_filter.specs.Links.{IsOn};
-ghost use Rattle.match_filter.specs.LiftingTest.{DecidesLifting};
+ghost use Rattle.query_shape.specs.Lifting.{DecidesLifting};
 ghost use Rattle.tree_witness.specs.Trees.{AreTreesOf, AreEntries, IsOrientedBelow, IsEntryBelow, PassesBy, PassesEntry, TopAgrees};
 
 use crate::oriented::{OrientedAtom, oriented_atoms};
 use crate::tree::{ReachedTerm, tree};
-use dl_base::{Elem, Items, Role};
+use dl_base::{Elem, Items};
 use query_shape::Shape;
 use std::alloc::{AllocError, Global};
 use std::marker::Model;
@@ -48,6 +47,14 @@ impl TreeWitnesses {
         let oriented = oriented_atoms(alloc, s.atoms())?;
         let entries = entries(alloc, terms, oriented.items())?;
         Ok(TreeWitnesses { terms, entries })
+    }
+
+    /// Each role atom, read as it stands and then the other way, with its tree witness.
+    pub fn entries(&self) -> &[TreeEntry]
+        ensures entries { result.now ≡ self.now.entries }
+        ensures below { All (IsEntryBelow self.now.terms) result.now }
+    {
+        self.entries.items()
     }
 
     /// Whether the images pass: each oriented atom that leads to a term on the witness of its role has a tree witness, and
@@ -97,7 +104,7 @@ fn passes_entry(entry: &TreeEntry, images: &[Elem]) -> bool
     requires { IsEntryBelow (length images.now) entry.now }
     ensures { IsTrue result ↔ PassesEntry images.now entry.now }
 {
-    if !is_on(images, entry.atom.role, entry.atom.to) {
+    if !images[entry.atom.to as usize].is_witness_of(entry.atom.role) {
         return true;
     }
     match &entry.tree {
@@ -135,15 +142,4 @@ fn is_same(e: Elem, f: Elem) -> bool
     ensures { IsTrue result ↔ (e ≡ f) }
 {
     e == f
-}
-
-/// Whether the image of a term is a witness of the role.
-fn is_on(images: &[Elem], role: Role, term: u32) -> bool
-    requires { term < length images.now }
-    ensures { IsTrue result ↔ IsOn images.now role term }
-{
-    match images[term as usize] {
-        Elem::Named(_) => false,
-        Elem::Shared(witness) => witness.role == role,
-    }
 }

@@ -1,11 +1,12 @@
 -- Tree witnesses: which terms are placed below a term as soon as one of its atoms leads to a witness, and by which roles.
-use Rattle.std.specs.Prelude.{◌≡◌, ◌≢◌, ◌⊎◌, ℕ, List, [], ◌∷◌, Contains, slice_get}
+use Rattle.std.specs.Prelude.{◌≡◌, ◌≢◌, ◌⊎◌, ℕ, List, [], ◌∷◌, Contains, Some, slice_get}
 use Rattle.dl_base.specs.Derivation.{inverse}
 use Rattle.dl_base.specs.declared.concept.Role.{Role}
 use Rattle.dl_base.specs.declared.element.Elem.{Elem}
+use Rattle.dl_base.specs.declared.element.Elem.TheVariants as elem
+use Rattle.dl_base.specs.declared.element.Witness.{Witness}
 use Rattle.query_shape.specs.declared.layout.ShapeAtom.{ShapeAtom}
 use Rattle.query_shape.specs.declared.layout.ShapeAtom.TheVariants as shape
-use Rattle.match_filter.specs.Links.{IsOn}
 
 -- One of these atoms, read one way, leads from the first term to the second by the role: as it stands, or from its second term
 -- to its first by the inverse of its role.
@@ -26,6 +27,10 @@ pub data TreeWitness (atoms : List ShapeAtom) (r : Role) (t : ℕ) : ℕ → Lis
 -- the tree witness exists: no term has two lists
 abbrev pub HasTreeWitness : List ShapeAtom → Role → ℕ → Type 0
 HasTreeWitness atoms r t = (s : ℕ) (v w : List Role) → TreeWitness atoms r t s v → TreeWitness atoms r t s w → v ≡ w
+
+-- the image of the term of this number is a witness of the role
+abbrev pub IsOn : List Elem → Role → ℕ → Type 0
+IsOn images r k = (w : Witness) × (slice_get images k ≡ Some (elem.Shared w)) × (w.role ≡ r)
 
 -- each term with the empty list has the image of t
 abbrev pub TopsAgree : List ShapeAtom → List Elem → Role → ℕ → Type 0
