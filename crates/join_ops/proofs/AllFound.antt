@@ -14,6 +14,8 @@ use Rattle.query_shape.specs.declared.layout.ShapeAtom.{ShapeAtom}
 use Rattle.query_shape.specs.declared.layout.ShapeAtom.TheVariants as shape
 use Rattle.join_ops.specs.Joins.{Start, IsFound, AreLeft}
 use Rattle.join_ops.specs.Levels.{AreOnLevels}
+use Rattle.join_ops.specs.declared.condition.Condition.{Condition}
+use Rattle.join_ops.specs.declared.condition.Condition.TheVariants as condition
 use Rattle.join_ops.proofs.Rooms.{elems, concept_elem, edge_elems}
 use Rattle.join_ops.proofs.LeftLemmas.{images_total, never_below}
 use Rattle.query_shape.proofs.MatchList.{Decided}
@@ -172,34 +174,34 @@ all_apart (x ∷ xs) rising = by (all_apart xs rising.1)
     by rest (suc i) zero d less below = absurd (omega arith)
     by rest (suc i) (suc j) d less below = rest i j d (omega arith) (omega arith)
 
-found_known : (table : List TableRow) (atoms : List ShapeAtom) (fixed : List (Option ℕ)) → AreOnLevels (length fixed) atoms → (x : List Elem) → IsFound table atoms fixed x
-    → OfLength (elems table) (length fixed) (IsFound table atoms fixed) x
-found_known table atoms fixed on x found = (found.count, all_within (elems table) x image, found)
+found_known : (table : List TableRow) (conditions : List Condition) (fixed : List (Option ℕ)) → AreOnLevels (length fixed) conditions → (x : List Elem) → IsFound table conditions fixed x
+    → OfLength (elems table) (length fixed) (IsFound table conditions fixed) x
+found_known table conditions fixed on x found = (found.count, all_within (elems table) x image, found)
   where
     image : (k : ℕ) (e : Elem) → slice_get x k ≡ Some e → Contains (elems table) e
     image k e at =
         let within = slice_get_within x k e at in
         let used = on.used k (omega (arith, within, found.count)) in
-        image_known table x k e used.0 used.2 (found.atoms_hold used.0 used.1) at
+        image_known table x k e used.0 used.2 (found.met (condition.Atom used.0) used.1) at
 
-all_found : (table : List TableRow) (atoms : List ShapeAtom) (fixed : List (Option ℕ)) → AreOnLevels (length fixed) atoms → (all : List (List Elem)) × Lists (IsFound table atoms fixed) all
-all_found table atoms fixed on =
-    let all = all_of (elems table) (length fixed) (IsFound table atoms fixed) (λ x. is_found table atoms fixed x) in
-    (all.0, same_lists _ _ all.0 (λ x h. h.2) (λ x found. found_known table atoms fixed on x found) all.1)
+all_found : (table : List TableRow) (conditions : List Condition) (fixed : List (Option ℕ)) → AreOnLevels (length fixed) conditions → (all : List (List Elem)) × Lists (IsFound table conditions fixed) all
+all_found table conditions fixed on =
+    let all = all_of (elems table) (length fixed) (IsFound table conditions fixed) (λ x. is_found table conditions fixed x) in
+    (all.0, same_lists _ _ all.0 (λ x h. h.2) (λ x found. found_known table conditions fixed on x found) all.1)
 
 -- before a search gives the first match it has all of them left
-pub new_left : (table : List TableRow) (atoms : List ShapeAtom) (fixed own : List (Option ℕ)) → AreOnLevels (length fixed) atoms → own ≡ fixed
-    → (left : List (List Elem)) × AreLeft table (record { atoms = atoms; fixed = own; place = Start }) left
-    × AllPairs (λ x y. x ≢ y) left × ((elements : List Elem) → Contains left elements ↔ IsFound table atoms fixed elements)
-new_left table atoms fixed own on same =
-    let all = all_found table atoms fixed on in
-    let left : AreLeft table (record { atoms = atoms; fixed = fixed; place = Start }) all.0 = record {
+pub new_left : (table : List TableRow) (conditions : List Condition) (fixed own : List (Option ℕ)) → AreOnLevels (length fixed) conditions → own ≡ fixed
+    → (left : List (List Elem)) × AreLeft table (record { conditions = conditions; fixed = own; place = Start }) left
+    × AllPairs (λ x y. x ≢ y) left × ((elements : List Elem) → Contains left elements ↔ IsFound table conditions fixed elements)
+new_left table conditions fixed own on same =
+    let all = all_found table conditions fixed on in
+    let left : AreLeft table (record { conditions = conditions; fixed = fixed; place = Start }) all.0 = record {
       last = tt;
       rising = all.1.rising;
       each = λ elements. ((λ c. ((all.1.each elements).0 c, tt)), (λ h. (all.1.each elements).1 h.0));
     } in (
       all.0,
-      subst (λ (l : List (Option ℕ)). AreLeft table (record { atoms = atoms; fixed = l; place = Start }) all.0) (sym same) left,
+      subst (λ (l : List (Option ℕ)). AreLeft table (record { conditions = conditions; fixed = l; place = Start }) all.0) (sym same) left,
       all_apart all.0 all.1.rising,
       all.1.each,
     )

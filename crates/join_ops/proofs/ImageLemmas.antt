@@ -1,14 +1,13 @@
 -- Images of terms by number, of elements by level, and back.
-use Rattle.std.proofs.Common.{◌≡◌, ◌≢◌, ◌↔◌, ◌<◌, ◌+◌, inl, inr, ℕ, zero, suc, List, [], ◌∷◌, ◌++◌, Option, Some, None, length, map, take, get_or, slice_get, slice_index, slice_index_or, All, AllPairs, Contains, refl, sym, ap, ◌∙◌, subst, arith}
-use Rattle.std.proofs.Math.ListN.{set}
-use Rattle.std.proofs.lemmas.List.{get_or-map, length-map, map_push, take_more, take_more_set}
-use Rattle.std.proofs.lemmas.List.Elements.{Contains-get_or}
+use Rattle.std.proofs.Common.{◌≡◌, ◌≢◌, ◌↔◌, ◌<◌, inl, inr, ℕ, zero, suc, List, [], ◌∷◌, ◌++◌, Option, Some, None, length, map, get_or, slice_get, slice_index, slice_index_or, All, AllPairs, Contains, refl, sym, ap, ◌∙◌, subst, arith}
+use Rattle.std.proofs.lemmas.List.{get_or-map, length-append, length-map}
+use Rattle.std.proofs.lemmas.List.Elements.{Contains-append_cases, Contains-append_left, Contains-get_or}
 use Rattle.std.proofs.lemmas.Option.{slice_get-get_or, slice_get_within, get_or_from_slice_get}
 use Rattle.dl_base.specs.Tables.{TableRow}
 use Rattle.dl_base.specs.declared.element.Elem.{Elem}
 use Rattle.dl_base.specs.declared.element.Elem.TheVariants as elem
 use Rattle.dl_base.proofs.PlaceLemmas.{map_contains, map_from, member_at, some_same, something_at}
-use Rattle.query_shape.specs.Shape.{Layout, IsLayout, IsShapeMatch, HoldsAt, IsBelow, IsTermOf}
+use Rattle.query_shape.specs.Shape.{AreFirsts, Layout, IsLayout, IsShapeMatch, HoldsAt, IsBelow, IsTermOf}
 use Rattle.query_shape.specs.declared.layout.ShapeAtom.{ShapeAtom}
 use Rattle.query_shape.specs.declared.layout.ShapeAtom.TheVariants as shape
 use Rattle.join_plan.specs.Plans.{IsPlanOf}
@@ -16,9 +15,12 @@ use Rattle.join_plan.specs.PlanLaws.{atom_of}
 use Rattle.join_plan.specs.declared.steps.Step.{Step}
 use Rattle.join_plan.proofs.LawLemmas.{matches_by_paths}
 use Rattle.join_ops.specs.Joins.{IsFixed, IsFound}
+use Rattle.join_ops.specs.Conditions.{IsUnder, Meets}
 use Rattle.join_ops.specs.Levels.{AreOnLevels}
-use Rattle.join_ops.specs.Matching.{AreMatches}
-use Rattle.join_ops.specs.Orders.{AreFirsts, AreLevelsIn, fixed_in, images_of, leveled, plan_terms}
+use Rattle.join_ops.specs.Orders.{AreLevelsIn, fixed_in, images_of, leveled, plan_terms}
+use Rattle.join_ops.specs.Planned.{leveled_atoms}
+use Rattle.join_ops.specs.declared.condition.Condition.{Condition}
+use Rattle.join_ops.specs.declared.condition.Condition.TheVariants as condition
 use Rattle.join_ops.proofs.OrderLemmas.{order_count, step_of, steps_below, steps_some}
 
 -- lists of one length with the same elements
@@ -45,17 +47,9 @@ mapped_from f (x ∷ xs) (suc k) y at = mapped_from f xs k y at
 pub image_at : (levels : List ℕ) (elements : List Elem) (term level : ℕ) → slice_get levels term ≡ Some level → level < length elements → slice_get (images_of levels elements) term ≡ slice_get elements level
 image_at levels elements term level at below = mapped_at (λ (l : ℕ). slice_index_or elements l (elem.Named 0)) levels term level at ∙ sym (slice_get-get_or elements level (elem.Named 0) below)
 
-image_same : (levels : List ℕ) (elements : List Elem) (term : ℕ) → term < length levels → All (λ level. level < length elements) levels
+pub image_same : (levels : List ℕ) (elements : List Elem) (term : ℕ) → term < length levels → All (λ level. level < length elements) levels
     → slice_get (images_of levels elements) term ≡ slice_get elements (slice_index levels term)
 image_same levels elements term below within = image_at levels elements term (get_or levels term 0) (slice_get-get_or levels term 0 below) (within term 0 below)
-
--- one image more
-pub image_more : (levels : List ℕ) (elements images : List Elem) (term level : ℕ) → term < length images → term < length levels → level ≡ slice_index levels term → take term images ≡ images_of (take term levels) elements
-    → take (term + 1) (set images term (slice_index_or elements level (elem.Named 0))) ≡ images_of (take (term + 1) levels) elements
-image_more levels elements images term level room below is so_far =
-    let f : ℕ → Elem = λ l. slice_index_or elements l (elem.Named 0) in
-    take_more_set images term (slice_index_or elements level (elem.Named 0)) room ∙ ap (λ (l : List Elem). l ++ slice_index_or elements level (elem.Named 0) ∷ []) so_far
-    ∙ ap (λ (l : ℕ). map f (take term levels) ++ f l ∷ []) is ∙ sym (map_push f (take term levels) (get_or levels term 0)) ∙ ap (map f) (sym (take_more levels term 0 below))
 
 module _ (order levels : List ℕ) (are : AreLevelsIn order levels) where
   pub levels_within : All (λ level. level < length order) levels
@@ -136,10 +130,6 @@ leveled_has levels term level (shape.Concept c n) at is = sym (get_or_from_slice
 leveled_has levels term level (shape.Role r n m) at (inl is) = inl (sym (get_or_from_slice_get levels n level 0 (subst (λ (t : ℕ). slice_get levels t ≡ Some level) is at)))
 leveled_has levels term level (shape.Role r n m) at (inr is) = inr (sym (get_or_from_slice_get levels m level 0 (subst (λ (t : ℕ). slice_get levels t ≡ Some level) is at)))
 
--- what the paths of these steps go through, by level
-abbrev pub leveled_atoms : List ℕ → List Step → List ShapeAtom
-leveled_atoms levels steps = map (λ step. leveled levels (atom_of step.path)) steps
-
 mapped_apart : (f : List Elem → List Elem) (all : List (List Elem)) → AllPairs (λ x y. x ≢ y) all → ((x y : List Elem) → Contains all x → Contains all y → f x ≡ f y → x ≡ y) → AllPairs (λ x y. x ≢ y) (map f all)
 mapped_apart f all apart one i j d lt below e =
     let long : length (map f all) ≡ length all = length-map all f in
@@ -151,73 +141,87 @@ module _ (s : Layout) (steps : List Step) (layout : IsLayout s) (plan : IsPlanOf
   pub levels_count : length levels ≡ length s.terms
   levels_count = are.count ∙ order_count s steps layout plan order firsts
 
-  -- these atoms are searched by level
-  pub on_levels : AreOnLevels (length order) (leveled_atoms levels steps)
-  on_levels = record {
-    some = omega (arith, steps_some s steps layout plan, length-map steps (λ (step : Step). leveled levels (atom_of step.path)));
-    below = below;
-    used = used;
-  }
-    where
-      below : (a : ShapeAtom) → Contains (leveled_atoms levels steps) a → IsBelow (length order) a
-      below a c =
-          let step = map_from (λ (step : Step). leveled levels (atom_of step.path)) steps a c in
-          subst (IsBelow (length order)) (sym step.2)
-          (leveled_below (length order) levels (atom_of step.0.path) (subst (λ (n : ℕ). IsBelow n (atom_of step.0.path)) (sym levels_count) (steps_below s steps layout plan step.0 step.1)) (levels_within order levels are))
+  path_under : (step : Step) → Contains steps step → IsBelow (length levels) (atom_of step.path)
+  path_under step c = subst (λ (n : ℕ). IsBelow n (atom_of step.path)) (sym levels_count) (steps_below s steps layout plan step c)
 
-      used : (k : ℕ) → k < length order → (a : ShapeAtom) × Contains (leveled_atoms levels steps) a × IsTermOf k a
-      used k below =
-          let term = something_at order k below in
-          let there : slice_get levels term.0 ≡ Some k = (are.each term.0 k).1 term.1 in
-          let step = step_of s steps layout plan term.0 (omega (arith, slice_get_within levels term.0 k there, levels_count)) in
-          (leveled levels (atom_of step.0.path), map_contains (λ (step : Step). leveled levels (atom_of step.path)) steps step.0 step.1, leveled_has levels term.0 k (atom_of step.0.path) there step.2)
-
-  module _ (table : List TableRow) (fixed : List (Option ℕ)) (long : length fixed ≡ length s.terms) where
-    all_within : (elements : List Elem) → length elements ≡ length order → All (λ level. level < length elements) levels
-    all_within elements whole = subst (λ (n : ℕ). All (λ level. level < n) levels) (sym whole) (levels_within order levels are)
-
-    found_long : (elements : List Elem) → IsFound table (leveled_atoms levels steps) (fixed_in order fixed) elements → length elements ≡ length order
-    found_long elements found = found.count ∙ length-map order _
-
-    -- elements that are found by level have the images of a match
-    match_of : (elements : List Elem) → IsFound table (leveled_atoms levels steps) (fixed_in order fixed) elements → IsShapeMatch table s (images_of levels elements) × IsFixed fixed (images_of levels elements)
-    match_of elements found =
-        let whole = found_long elements found in
-        let count : length (images_of levels elements) ≡ length s.terms = length-map levels _ ∙ levels_count in (
-          (matches_by_paths s steps table (images_of levels elements) plan count).1 (λ step c. (holds_by_level table levels elements (atom_of step.path) (subst (λ (n : ℕ). IsBelow n (atom_of step.path)) (sym levels_count) (steps_below s steps layout plan step c)) (all_within elements whole)).1
-              (found.atoms_hold (leveled levels (atom_of step.path)) (map_contains (λ (step : Step). leveled levels (atom_of step.path)) steps step c))),
-          (fixed_by_number order levels are fixed elements (long ∙ sym levels_count) whole).0 found.fixed_are,
-        )
-
-    -- and the elements of a match are found
-    found_of : (images : List Elem) → IsShapeMatch table s images → IsFixed fixed images → IsFound table (leveled_atoms levels steps) (fixed_in order fixed) (images_of order images)
-    found_of images match fixed_are =
-        let whole : length (images_of order images) ≡ length order = length-map order _ in
-        let same : images_of levels (images_of order images) ≡ images = back_and_forth order levels are images (match.count ∙ sym levels_count) in
-        record {
-          count = whole ∙ sym (length-map order _);
-          atoms_hold = λ a c.
-              let step = map_from (λ (step : Step). leveled levels (atom_of step.path)) steps a c in
-              let holds : HoldsAt table images (atom_of step.0.path) = (matches_by_paths s steps table images plan match.count).0 match step.0 step.1 in
-              subst (HoldsAt table (images_of order images)) (sym step.2)
-              ((holds_by_level table levels (images_of order images) (atom_of step.0.path) (subst (λ (n : ℕ). IsBelow n (atom_of step.0.path)) (sym levels_count) (steps_below s steps layout plan step.0 step.1)) (all_within (images_of order images) whole)).0
-              (subst (λ (l : List Elem). HoldsAt table l (atom_of step.0.path)) (sym same) holds));
-          fixed_are = (fixed_by_number order levels are fixed (images_of order images) (long ∙ sym levels_count) whole).1 (subst (IsFixed fixed) (sym same) fixed_are);
-        }
-
-    -- the images of all that is found by level are the matches
-    pub matches_of : (all : List (List Elem)) → AllPairs (λ x y. x ≢ y) all → ((elements : List Elem) → Contains all elements ↔ IsFound table (leveled_atoms levels steps) (fixed_in order fixed) elements)
-        → AreMatches table s fixed (map (images_of levels) all)
-    matches_of all apart each = record {
-      distinct = mapped_apart (images_of levels) all apart one;
-      each = λ images. (
-        (λ c. let at = map_from (images_of levels) all images c in subst (λ (l : List Elem). IsShapeMatch table s l × IsFixed fixed l) (sym at.2) (match_of at.0 ((each at.0).0 at.1))),
-        (λ h.
-            let same : images_of levels (images_of order images) ≡ images = back_and_forth order levels are images (h.0.count ∙ sym levels_count) in
-            subst (Contains (map (images_of levels) all)) same (map_contains (images_of levels) all (images_of order images) ((each (images_of order images)).1 (found_of images h.0 h.1)))),
-      );
+  module _ (more : List Condition) (twins : (c : Condition) → Contains more c → IsUnder (length order) c) where
+    -- these conditions are on the levels
+    pub on_levels : AreOnLevels (length order) (leveled_atoms levels steps ++ more)
+    on_levels = record {
+      some = omega (arith, steps_some s steps layout plan, length-map steps (λ (step : Step). condition.Atom (leveled levels (atom_of step.path))), length-append (leveled_atoms levels steps) more);
+      under = under;
+      used = used;
     }
       where
-        one : (x y : List Elem) → Contains all x → Contains all y → images_of levels x ≡ images_of levels y → x ≡ y
-        one x y cx cy e =
-            sym (forth_and_back order levels are x (found_long x ((each x).0 cx))) ∙ ap (images_of order) e ∙ forth_and_back order levels are y (found_long y ((each y).0 cy))
+        under : (c : Condition) → Contains (leveled_atoms levels steps ++ more) c → IsUnder (length order) c
+        under c there = elim (Contains-append_cases (leveled_atoms levels steps) more c there) [
+          | inl atom ↦
+              let step = map_from (λ (step : Step). condition.Atom (leveled levels (atom_of step.path))) steps c atom in
+              subst (IsUnder (length order)) (sym step.2) (leveled_below (length order) levels (atom_of step.0.path) (path_under step.0 step.1) (levels_within order levels are))
+          | inr twin ↦ twins c twin
+        ]
+
+        used : (k : ℕ) → k < length order → (a : ShapeAtom) × Contains (leveled_atoms levels steps ++ more) (condition.Atom a) × IsTermOf k a
+        used k below =
+            let term = something_at order k below in
+            let there : slice_get levels term.0 ≡ Some k = (are.each term.0 k).1 term.1 in
+            let step = step_of s steps layout plan term.0 (omega (arith, slice_get_within levels term.0 k there, levels_count)) in
+            (leveled levels (atom_of step.0.path), Contains-append_left (leveled_atoms levels steps) more (condition.Atom (leveled levels (atom_of step.0.path))) (map_contains (λ (step : Step). condition.Atom (leveled levels (atom_of step.path))) steps step.0 step.1), leveled_has levels term.0 k (atom_of step.0.path) there step.2)
+
+    module _ (table : List TableRow) (fixed : List (Option ℕ)) (long : length fixed ≡ length s.terms) where
+      all_within : (elements : List Elem) → length elements ≡ length order → All (λ level. level < length elements) levels
+      all_within elements whole = subst (λ (n : ℕ). All (λ level. level < n) levels) (sym whole) (levels_within order levels are)
+
+      found_long : (elements : List Elem) → IsFound table (leveled_atoms levels steps ++ more) (fixed_in order fixed) elements → length elements ≡ length order
+      found_long elements found = found.count ∙ length-map order _
+
+      -- elements that are found by level have the images of a match
+      match_of : (elements : List Elem) → IsFound table (leveled_atoms levels steps ++ more) (fixed_in order fixed) elements → IsShapeMatch table s (images_of levels elements) × IsFixed fixed (images_of levels elements)
+      match_of elements found =
+          let whole = found_long elements found in
+          let count : length (images_of levels elements) ≡ length s.terms = length-map levels _ ∙ levels_count in (
+            (matches_by_paths s steps table (images_of levels elements) plan count).1 (λ step c. (holds_by_level table levels elements (atom_of step.path) (path_under step c) (all_within elements whole)).1
+                (found.met (condition.Atom (leveled levels (atom_of step.path))) (Contains-append_left (leveled_atoms levels steps) more (condition.Atom (leveled levels (atom_of step.path))) (map_contains (λ (step : Step). condition.Atom (leveled levels (atom_of step.path))) steps step c)))),
+            (fixed_by_number order levels are fixed elements (long ∙ sym levels_count) whole).0 found.fixed_are,
+          )
+
+      -- and the elements of a match that meets the other conditions are found
+      found_of : (images : List Elem) → IsShapeMatch table s images → IsFixed fixed images → ((c : Condition) → Contains more c → Meets table (images_of order images) c)
+          → IsFound table (leveled_atoms levels steps ++ more) (fixed_in order fixed) (images_of order images)
+      found_of images match fixed_are others =
+          let whole : length (images_of order images) ≡ length order = length-map order _ in
+          let same : images_of levels (images_of order images) ≡ images = back_and_forth order levels are images (match.count ∙ sym levels_count) in
+          record {
+            count = whole ∙ sym (length-map order _);
+            met = λ c there. elim (Contains-append_cases (leveled_atoms levels steps) more c there) [
+              | inl atom ↦
+                  let step = map_from (λ (step : Step). condition.Atom (leveled levels (atom_of step.path))) steps c atom in
+                  let holds : HoldsAt table images (atom_of step.0.path) = (matches_by_paths s steps table images plan match.count).0 match step.0 step.1 in
+                  subst (Meets table (images_of order images)) (sym step.2)
+                  ((holds_by_level table levels (images_of order images) (atom_of step.0.path) (path_under step.0 step.1) (all_within (images_of order images) whole)).0
+                  (subst (λ (l : List Elem). HoldsAt table l (atom_of step.0.path)) (sym same) holds))
+              | inr twin ↦ others c twin
+            ];
+            fixed_are = (fixed_by_number order levels are fixed (images_of order images) (long ∙ sym levels_count) whole).1 (subst (IsFixed fixed) (sym same) fixed_are);
+          }
+
+      module _ (all : List (List Elem)) (apart : AllPairs (λ x y. x ≢ y) all)
+          (each : (elements : List Elem) → Contains all elements ↔ IsFound table (leveled_atoms levels steps ++ more) (fixed_in order fixed) elements) where
+        -- the images of all that is found by level are matches
+        pub images_apart : AllPairs (λ x y. x ≢ y) (map (images_of levels) all)
+        images_apart = mapped_apart (images_of levels) all apart one
+          where
+            one : (x y : List Elem) → Contains all x → Contains all y → images_of levels x ≡ images_of levels y → x ≡ y
+            one x y cx cy e =
+                sym (forth_and_back order levels are x (found_long x ((each x).0 cx))) ∙ ap (images_of order) e ∙ forth_and_back order levels are y (found_long y ((each y).0 cy))
+
+        pub only_matches : (images : List Elem) → Contains (map (images_of levels) all) images → IsShapeMatch table s images × IsFixed fixed images
+        only_matches images c =
+            let at = map_from (images_of levels) all images c in
+            subst (λ (l : List Elem). IsShapeMatch table s l × IsFixed fixed l) (sym at.2) (match_of at.0 ((each at.0).0 at.1))
+
+        -- and each match that meets the other conditions is among them
+        pub match_there : (images : List Elem) → IsShapeMatch table s images → IsFixed fixed images → ((c : Condition) → Contains more c → Meets table (images_of order images) c) → Contains (map (images_of levels) all) images
+        match_there images match fixed_are others =
+            let same : images_of levels (images_of order images) ≡ images = back_and_forth order levels are images (match.count ∙ sym levels_count) in
+            subst (Contains (map (images_of levels) all)) same (map_contains (images_of levels) all (images_of order images) ((each (images_of order images)).1 (found_of images match fixed_are others)))

@@ -14,9 +14,9 @@ use Rattle.dl_base.specs.declared.element.Elem.{Elem}
 use Rattle.dl_base.proofs.ElemLemmas.{elem_total}
 use Rattle.dl_base.proofs.RisingLemmas.{contains_cases, contains_first, contains_later, all_contains}
 use Rattle.dl_base.proofs.RowLemmas.{none_rising}
-use Rattle.query_shape.specs.declared.layout.ShapeAtom.{ShapeAtom}
 use Rattle.join_ops.specs.Joins.{SearchPlace, Start, Behind, Past, End, IsFound, IsBehind, IsLast, AreLeft, IsNext, Advances, SkipsAlike}
 use Rattle.join_ops.specs.Levels.{Finds, IsLeast, place_at}
+use Rattle.join_ops.specs.declared.condition.Condition.{Condition}
 use Rattle.join_ops.specs.declared.search.At.{At}
 use Rattle.join_ops.specs.declared.search.At.TheVariants as at
 use Rattle.join_ops.proofs.Beyond.{take_rises, take_less}
@@ -39,10 +39,10 @@ behind_through (Past n last) x y h less = elim (take_rises n x y less) [
 ]
 behind_through End x y h less = absurd h
 
-module _ (table : List TableRow) (atoms : List ShapeAtom) (fixed : List (Option ℕ)) (place : SearchPlace) where
-  none_left : (left : List (List Elem)) → AreLeft table (record { atoms = atoms; fixed = fixed; place = place }) left
-      → ((others : List Elem) → IsFound table atoms fixed others → IsBehind place others → ⊥)
-      → (left ≡ []) × AreLeft table (record { atoms = atoms; fixed = fixed; place = End }) []
+module _ (table : List TableRow) (conditions : List Condition) (fixed : List (Option ℕ)) (place : SearchPlace) where
+  none_left : (left : List (List Elem)) → AreLeft table (record { conditions = conditions; fixed = fixed; place = place }) left
+      → ((others : List Elem) → IsFound table conditions fixed others → IsBehind place others → ⊥)
+      → (left ≡ []) × AreLeft table (record { conditions = conditions; fixed = fixed; place = End }) []
   none_left [] are none = (
     refl,
     record {
@@ -53,8 +53,8 @@ module _ (table : List TableRow) (atoms : List ShapeAtom) (fixed : List (Option 
   )
   none_left (x ∷ xs) are none = let h = (are.each x).0 (contains_first x xs) in absurd (none x h.0 h.1)
 
-  first_is : (x images : List Elem) (xs : List (List Elem)) → AreLeft table (record { atoms = atoms; fixed = fixed; place = place }) (x ∷ xs)
-      → IsLeast table atoms fixed place images → x ≡ images
+  first_is : (x images : List Elem) (xs : List (List Elem)) → AreLeft table (record { conditions = conditions; fixed = fixed; place = place }) (x ∷ xs)
+      → IsLeast table conditions fixed place images → x ≡ images
   unfolding IsStrictlySortedBy
   first_is x images xs are least =
       let there = (are.each x).0 (contains_first x xs) in
@@ -67,8 +67,8 @@ module _ (table : List TableRow) (atoms : List ShapeAtom) (fixed : List (Option 
           let above : slice_cmp elem_cmp x images ≡ Less = all_contains _ xs images are.rising.0 c in
           absurd (never_below x (less_through x images x above less))
 
-  others_left : (x : List Elem) (xs : List (List Elem)) → AreLeft table (record { atoms = atoms; fixed = fixed; place = place }) (x ∷ xs)
-      → AreLeft table (record { atoms = atoms; fixed = fixed; place = Behind x }) xs
+  others_left : (x : List Elem) (xs : List (List Elem)) → AreLeft table (record { conditions = conditions; fixed = fixed; place = place }) (x ∷ xs)
+      → AreLeft table (record { conditions = conditions; fixed = fixed; place = Behind x }) xs
   unfolding IsStrictlySortedBy
   others_left x xs are =
       let there = (are.each x).0 (contains_first x xs) in
@@ -85,8 +85,8 @@ module _ (table : List TableRow) (atoms : List ShapeAtom) (fixed : List (Option 
       in_others images less (inl e) = absurd (never_below x (subst (λ (l : List Elem). slice_cmp elem_cmp x l ≡ Less) e less))
       in_others images less (inr c) = c
 
-  next_left : (left : List (List Elem)) (images : List Elem) → AreLeft table (record { atoms = atoms; fixed = fixed; place = place }) left
-      → IsLeast table atoms fixed place images → IsNext table left (record { atoms = atoms; fixed = fixed; place = Behind images })
+  next_left : (left : List (List Elem)) (images : List Elem) → AreLeft table (record { conditions = conditions; fixed = fixed; place = place }) left
+      → IsLeast table conditions fixed place images → IsNext table left (record { conditions = conditions; fixed = fixed; place = Behind images })
   next_left [] images are least = absurd (let c = (are.each images).1 (least.found, least.behind) in omega (arith, c.1))
   next_left (x ∷ xs) images are least =
       let same = first_is x images xs are least in
@@ -95,27 +95,27 @@ module _ (table : List TableRow) (atoms : List ShapeAtom) (fixed : List (Option 
         others = xs;
         first = ap (λ (l : List Elem). l ∷ xs) same;
         stands = refl;
-        goes_on = subst (λ (l : List Elem). AreLeft table (record { atoms = atoms; fixed = fixed; place = Behind l }) xs) same (others_left x xs are);
+        goes_on = subst (λ (l : List Elem). AreLeft table (record { conditions = conditions; fixed = fixed; place = Behind l }) xs) same (others_left x xs are);
       }
 
-  found_left : (left : List (List Elem)) (found : Bool) (images : List Elem) (after : At) → AreLeft table (record { atoms = atoms; fixed = fixed; place = place }) left
-      → Finds table atoms fixed place found images → ((found ≡ true) × (after ≡ at.Behind)) ⊎ ((found ≡ false) × (after ≡ at.End))
-      → Advances table left found (record { atoms = atoms; fixed = fixed; place = place_at after images })
+  found_left : (left : List (List Elem)) (found : Bool) (images : List Elem) (after : At) → AreLeft table (record { conditions = conditions; fixed = fixed; place = place }) left
+      → Finds table conditions fixed place found images → ((found ≡ true) × (after ≡ at.Behind)) ⊎ ((found ≡ false) × (after ≡ at.End))
+      → Advances table left found (record { conditions = conditions; fixed = fixed; place = place_at after images })
   found_left left true images after are finds (inl is) =
-      subst (λ (a : At). IsNext table left (record { atoms = atoms; fixed = fixed; place = place_at a images })) (sym is.1) (next_left left images are finds)
+      subst (λ (a : At). IsNext table left (record { conditions = conditions; fixed = fixed; place = place_at a images })) (sym is.1) (next_left left images are finds)
   found_left left true images after are finds (inr is) = absurd (let e = is.0 in cc)
   found_left left false images after are finds (inl is) = absurd (let e = is.0 in cc)
   found_left left false images after are finds (inr is) =
       let none = none_left left are finds in
-      (none.0, subst (λ (a : At). AreLeft table (record { atoms = atoms; fixed = fixed; place = place_at a images }) []) (sym is.1) none.1)
+      (none.0, subst (λ (a : At). AreLeft table (record { conditions = conditions; fixed = fixed; place = place_at a images }) []) (sym is.1) none.1)
 
 -- what an answer of the search says of what is left
-pub advances : (table : List TableRow) (atoms : List ShapeAtom) (fixed : List (Option ℕ)) (before after : At) (old new : List Elem) (left : List (List Elem)) (found : Bool)
-    → AreLeft table (record { atoms = atoms; fixed = fixed; place = place_at before old }) left
-    → (IsLast table atoms fixed (place_at before old) → Finds table atoms fixed (place_at before old) found new)
+pub advances : (table : List TableRow) (conditions : List Condition) (fixed : List (Option ℕ)) (before after : At) (old new : List Elem) (left : List (List Elem)) (found : Bool)
+    → AreLeft table (record { conditions = conditions; fixed = fixed; place = place_at before old }) left
+    → (IsLast table conditions fixed (place_at before old) → Finds table conditions fixed (place_at before old) found new)
     → ((found ≡ true) × (after ≡ at.Behind)) ⊎ ((found ≡ false) × (after ≡ at.End))
-    → Advances table left found (record { atoms = atoms; fixed = fixed; place = place_at after new })
-advances table atoms fixed before after old new left found are finds is = found_left table atoms fixed (place_at before old) left found new after are (finds are.last) is
+    → Advances table left found (record { conditions = conditions; fixed = fixed; place = place_at after new })
+advances table conditions fixed before after old new left found are finds is = found_left table conditions fixed (place_at before old) left found new after are (finds are.last) is
 
 pub less_of : (r : Ordering) → is_lt r ≡ true → r ≡ Less
 less_of Less e = refl
@@ -146,10 +146,10 @@ kept_in {X} p (y ∷ ys) x c is = by (p y) refl (λ d. kept_in p ys x d is) (con
     by false e rest (inr d) = rest d
 
 -- what is left behind all that have so many first images as the last match
-pub past_left : (table : List TableRow) (atoms : List ShapeAtom) (fixed : List (Option ℕ)) (n : ℕ) (x : List Elem) (left : List (List Elem))
-    → AreLeft table (record { atoms = atoms; fixed = fixed; place = Behind x }) left
-    → SkipsAlike table left n x (record { atoms = atoms; fixed = fixed; place = Past n x })
-past_left table atoms fixed n x left are = record {
+pub past_left : (table : List TableRow) (conditions : List Condition) (fixed : List (Option ℕ)) (n : ℕ) (x : List Elem) (left : List (List Elem))
+    → AreLeft table (record { conditions = conditions; fixed = fixed; place = Behind x }) left
+    → SkipsAlike table left n x (record { conditions = conditions; fixed = fixed; place = Past n x })
+past_left table conditions fixed n x left are = record {
   others = filter above left;
   stands = refl;
   goes_on = record {
@@ -178,9 +178,9 @@ stood_at at.Behind images last stands = cc
 stood_at (at.Past n) images last stands = absurd cc
 stood_at at.End images last stands = absurd cc
 
-pub skips_alike : (table : List TableRow) (atoms : List ShapeAtom) (fixed : List (Option ℕ)) (at : At) (n : ℕ) (images last : List Elem) (left : List (List Elem))
-    → AreLeft table (record { atoms = atoms; fixed = fixed; place = place_at at images }) left → place_at at images ≡ Behind last
-    → SkipsAlike table left n last (record { atoms = atoms; fixed = fixed; place = Past n images })
-skips_alike table atoms fixed at n images last left are stands =
-    subst (λ (l : List Elem). SkipsAlike table left n last (record { atoms = atoms; fixed = fixed; place = Past n l })) (sym (stood_at at images last stands))
-    (past_left table atoms fixed n last left (subst (λ (p : SearchPlace). AreLeft table (record { atoms = atoms; fixed = fixed; place = p }) left) stands are))
+pub skips_alike : (table : List TableRow) (conditions : List Condition) (fixed : List (Option ℕ)) (at : At) (n : ℕ) (images last : List Elem) (left : List (List Elem))
+    → AreLeft table (record { conditions = conditions; fixed = fixed; place = place_at at images }) left → place_at at images ≡ Behind last
+    → SkipsAlike table left n last (record { conditions = conditions; fixed = fixed; place = Past n images })
+skips_alike table conditions fixed at n images last left are stands =
+    subst (λ (l : List Elem). SkipsAlike table left n last (record { conditions = conditions; fixed = fixed; place = Past n l })) (sym (stood_at at images last stands))
+    (past_left table conditions fixed n last left (subst (λ (p : SearchPlace). AreLeft table (record { conditions = conditions; fixed = fixed; place = p }) left) stands are))

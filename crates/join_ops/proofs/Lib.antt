@@ -3,10 +3,12 @@ pub mod Weights
 pub mod Beyond
 pub mod LevelLemmas
 pub mod SearchSteps
+pub mod CheckLemmas
 pub mod SourceLemmas
 pub mod LeftLemmas
 pub mod Decisions
 pub mod AllFound
 pub mod OrderLemmas
 pub mod ImageLemmas
+pub mod TwinLemmas
 pub mod PlannedLemmas

@@ -2,16 +2,15 @@
 use Rattle.std.proofs.Common.{◌≡◌, ◌≢◌, ◌≤◌, ◌<◌, ◌+◌, ◌^◌, ◌⊎◌, inl, inr, ℕ, List, [], ◌∷◌, ◌++◌, Some, length, map, take, get_or, slice_get, All, AllPairs, Contains, refl, sym, ap, ◌∙◌, subst, arith}
 use Rattle.std.specs.List.{flat_map, range_with_len}
 use Rattle.std.proofs.lemmas.Grind.{flat_map-append}
-use Rattle.std.proofs.lemmas.List.{get_or_default, length-map, take_more}
-use Rattle.std.proofs.lemmas.List.Elements.{Contains-append_left, Contains-push, Contains-push_cases, Contains-get_or}
+use Rattle.std.proofs.lemmas.List.{length-map, take_more}
+use Rattle.std.proofs.lemmas.List.Elements.{Contains-get_or}
 use Rattle.std.proofs.lemmas.List.FromFn.{length-range_with_len}
-use Rattle.std.proofs.lemmas.List.Quantifiers.{all_pairs_push}
 use Rattle.std.proofs.lemmas.List.Sorted.{length_permutation}
 use Rattle.std.proofs.lemmas.Option.{slice_get-get_or, slice_get_within, get_or_from_slice_get}
 use Rattle.dl_base.specs.declared.concept.Role.{Role}
 use Rattle.dl_base.proofs.PlaceLemmas.{flat_there, flat_part, map_from, member_at, no_more, one_place, place_of, some_same}
 use Rattle.dl_base.proofs.RisingLemmas.{contains_cases, contains_first, contains_later}
-use Rattle.query_shape.specs.Shape.{Layout, IsLayout, IsBelow, IsTermOf}
+use Rattle.query_shape.specs.Shape.{AreFirsts, Layout, IsLayout, IsBelow, IsTermOf}
 use Rattle.query_shape.specs.declared.layout.ShapeAtom.{ShapeAtom}
 use Rattle.query_shape.specs.declared.layout.ShapeAtom.TheVariants as shape
 use Rattle.join_plan.specs.Plans.{IsPathFor, IsPlanOf, IsTermKnown, LeadsBy, places}
@@ -20,37 +19,9 @@ use Rattle.join_plan.specs.declared.steps.AccessPath.{AccessPath}
 use Rattle.join_plan.specs.declared.steps.AccessPath.TheVariants as path
 use Rattle.join_plan.specs.declared.steps.Step.{Step}
 use Rattle.join_plan.proofs.LawLemmas.{each_atom_once, numbered, numbers_distinct, within_numbers}
-use Rattle.join_ops.specs.Orders.{AreFirsts, AreLevelsIn, known_number, new_number, no_number, path_terms, plan_terms}
-
--- ---- first occurrences
-
-pub firsts_from : {all firsts : List ℕ} → AreFirsts all firsts → (t : ℕ) → Contains firsts t → Contains all t
-firsts_from no_number t c = c
-firsts_from (known_number {all = before} {firsts = kept} k f there) t c = Contains-append_left before (k ∷ []) t (firsts_from f t c)
-firsts_from (new_number {all = before} {firsts = kept} k f absent) t c = by (Contains-push_cases kept k t c) (λ d. firsts_from f t d)
-  where
-    by : Contains kept t ⊎ (k ≡ t) → (Contains kept t → Contains before t) → Contains (before ++ k ∷ []) t
-    by (inl d) rec = Contains-append_left before (k ∷ []) t (rec d)
-    by (inr e) rec = subst (λ (v : ℕ). Contains (before ++ k ∷ []) v) e (Contains-push before k)
-
-pub firsts_into : {all firsts : List ℕ} → AreFirsts all firsts → (t : ℕ) → Contains all t → Contains firsts t
-firsts_into no_number t c = c
-firsts_into (known_number {all = before} {firsts = kept} k f there) t c = by (Contains-push_cases before k t c) (λ d. firsts_into f t d)
-  where
-    by : Contains before t ⊎ (k ≡ t) → (Contains before t → Contains kept t) → Contains kept t
-    by (inl d) rec = rec d
-    by (inr e) rec = subst (λ (v : ℕ). Contains kept v) e there
-firsts_into (new_number {all = before} {firsts = kept} k f absent) t c = by (Contains-push_cases before k t c) (λ d. firsts_into f t d)
-  where
-    by : Contains before t ⊎ (k ≡ t) → (Contains before t → Contains kept t) → Contains (kept ++ k ∷ []) t
-    by (inl d) rec = Contains-append_left kept (k ∷ []) t (rec d)
-    by (inr e) rec = subst (λ (v : ℕ). Contains (kept ++ k ∷ []) v) e (Contains-push kept k)
-
-pub firsts_distinct : {all firsts : List ℕ} → AreFirsts all firsts → AllPairs (λ t u. t ≢ u) firsts
-firsts_distinct no_number = λ i j d lt below. absurd (omega (arith, below))
-firsts_distinct (known_number {all = before} {firsts = kept} k f there) = firsts_distinct f
-firsts_distinct (new_number {all = before} {firsts = kept} k f absent) =
-    all_pairs_push (λ t v. t ≢ v) kept k (firsts_distinct f) (λ i d below e. absent (i, below, get_or_default kept i k d below ∙ e))
+use Rattle.join_plan.proofs.PlanLemmas.{only_ends}
+use Rattle.query_shape.proofs.NumberingLemmas.{firsts_distinct, firsts_from, firsts_into}
+use Rattle.join_ops.specs.Orders.{AreLevelsIn, path_terms, plan_terms}
 
 -- the terms of one step more
 pub terms_more : (steps : List Step) (i : ℕ) (d : Step) (order : List ℕ) → i < length steps → AreFirsts (plan_terms (take i steps) ++ path_terms (get_or steps i d).path) order → AreFirsts (plan_terms (take (i + 1) steps)) order
@@ -91,19 +62,12 @@ path_has (path.ScanRole r n m) k h = two_in k n m h
 path_has (path.WalkEdges r n m) k h = two_in k n m h
 path_has (path.CheckPair r n m) k h = two_in k n m h
 
-turned_terms : (a : ShapeAtom) (r : Role) (n m k : ℕ) → LeadsBy a r n m → IsTermOf k a → (k ≡ n) ⊎ (k ≡ m)
-turned_terms (shape.Concept c x) r n m k h is = absurd h
-turned_terms (shape.Role q x y) r n m k (inl h) (inl e) = inl (e ∙ sym h.1)
-turned_terms (shape.Role q x y) r n m k (inl h) (inr e) = inr (e ∙ sym h.2)
-turned_terms (shape.Role q x y) r n m k (inr h) (inl e) = inr (e ∙ sym h.2)
-turned_terms (shape.Role q x y) r n m k (inr h) (inr e) = inl (e ∙ sym h.1)
-
 -- the terms of an atom are those of its path
 same_terms : (Known : ℕ → Type 0) (a : ShapeAtom) (p : AccessPath) (k : ℕ) → IsPathFor Known a p → IsTermOf k a → IsTermOf k (atom_of p)
 same_terms Known a (path.ScanConcept c n) k h is = subst (IsTermOf k) h.0 is
 same_terms Known a (path.ProbeConcept c n) k h is = subst (IsTermOf k) h.0 is
-same_terms Known a (path.ScanRole r n m) k h is = turned_terms a r n m k h.0 is
-same_terms Known a (path.WalkEdges r n m) k h is = turned_terms a r n m k h.0 is
+same_terms Known a (path.ScanRole r n m) k h is = only_ends a r n m k h.0 is
+same_terms Known a (path.WalkEdges r n m) k h is = only_ends a r n m k h.0 is
 same_terms Known a (path.CheckPair r n m) k h is = subst (IsTermOf k) h.0 is
 
 turned_below : (count : ℕ) (a : ShapeAtom) (r : Role) (n m : ℕ) → LeadsBy a r n m → IsBelow count a → IsBelow count (shape.Role r n m)

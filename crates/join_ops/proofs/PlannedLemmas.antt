@@ -1,23 +1,30 @@
 -- What a search by a plan has left once it went on.
-use Rattle.std.proofs.Common.{◌≡◌, ◌≢◌, ◌↔◌, ◌<◌, ◌⊎◌, inl, inr, ℕ, zero, suc, Bool, true, false, Option, List, [], ◌∷◌, Some, length, map, min, take, slice_get, AllPairs, Contains, refl, sym, ap, ◌∙◌, subst, arith}
+use Rattle.std.proofs.Common.{◌≡◌, ◌≢◌, ◌↔◌, ◌<◌, ◌⊎◌, inl, inr, ℕ, zero, suc, Bool, true, false, Option, List, [], ◌∷◌, Some, length, map, min, take, slice_get, All, AllPairs, Contains, ◌++◌, refl, sym, ap, ◌∙◌, subst, arith}
 use Rattle.std.specs.Cmp.Lexicographic.{slice_cmp}
 use Rattle.std.specs.declared.cmp.Ordering.{Ordering}
 use Rattle.std.specs.declared.cmp.Ordering.TheVariants.{Less, Equal, Greater}
 use Rattle.std.proofs.lemmas.Cmp.{tied_itself}
-use Rattle.std.proofs.lemmas.List.{length-map, length-take}
+use Rattle.std.proofs.lemmas.List.{append-nil, length-map, length-take}
 use Rattle.std.proofs.lemmas.Option.{slice_get_within}
 use Rattle.dl_base.specs.Tables.{TableRow, elem_cmp}
 use Rattle.dl_base.specs.declared.element.Elem.{Elem}
 use Rattle.dl_base.proofs.ElemLemmas.{elem_same}
 use Rattle.dl_base.proofs.PlaceLemmas.{map_contains, map_from, place_of}
 use Rattle.dl_base.proofs.RisingLemmas.{contains_first, slice_same}
-use Rattle.join_ops.specs.Joins.{SearchPlace, Search, Behind, AreLeft, Advances, IsFound, IsLast, IsNext, SkipsAlike}
-use Rattle.query_shape.specs.Shape.{Layout, IsLayout}
+use Rattle.join_ops.specs.Joins.{SearchPlace, Search, BeginsWith, Behind, AreLeft, Advances, IsFixed, IsFound, IsLast, IsNext, SkipsAlike}
+use Rattle.query_shape.specs.Shape.{Layout, IsLayout, IsShapeMatch}
 use Rattle.join_plan.specs.Plans.{IsPlanOf}
 use Rattle.join_plan.specs.declared.steps.Step.{Step}
-use Rattle.join_ops.specs.Matching.{AreMatches, GoesTo, HasLeft, PlannedSearch, SkipsAgreeing}
-use Rattle.join_ops.specs.Orders.{AgreeUpTo, AreFirsts, AreLevelsIn, fixed_in, images_of, plan_terms}
-use Rattle.join_ops.proofs.ImageLemmas.{image_at, leveled_atoms, levels_cover, matches_of, same_elements}
+use Rattle.tree_witness.specs.Trees.{IsEntryBelow, Trees}
+use Rattle.join_ops.specs.Conditions.{IsUnder, Meets}
+use Rattle.join_ops.specs.Levels.{AreOnLevels}
+use Rattle.join_ops.specs.Matching.{AreMatches, ArePassing, GoesTo, HasLeft, PlannedSearch, SkipsAgreeing}
+use Rattle.join_ops.specs.Orders.{AgreeUpTo, AreLevelsBy, fixed_in, images_of}
+use Rattle.join_ops.specs.Planned.{AddsTwins, AreLeveled, AreTwinsBy, BeginsBy, leveled_atoms}
+use Rattle.join_ops.specs.declared.condition.Condition.{Condition}
+use Rattle.join_ops.specs.declared.order.Leveled.{Leveled}
+use Rattle.join_ops.proofs.ImageLemmas.{image_at, images_apart, levels_count, levels_cover, levels_within, match_there, on_levels, only_matches, same_elements}
+use Rattle.join_ops.proofs.TwinLemmas.{twins_met, twins_under}
 use Rattle.join_ops.proofs.LeftLemmas.{images_total}
 
 -- what is left to another search over the same levels
@@ -119,25 +126,119 @@ skips_agreeing table m left has within search same n last stands skips =
     last_long : length last ≡ length m.search.fixed
     last_long = of m.search.place stands has.goes_on.last
       where
-        of : (place : SearchPlace) → place ≡ Behind last → IsLast table m.search.atoms m.search.fixed place → length last ≡ length m.search.fixed
-        of place is was = (subst (IsLast table m.search.atoms m.search.fixed) is was).count
+        of : (place : SearchPlace) → place ≡ Behind last → IsLast table m.search.conditions m.search.fixed place → length last ≡ length m.search.fixed
+        of place is was = (subst (IsLast table m.search.conditions m.search.fixed) is was).count
 
--- a search by level begins with the images of all matches left
-pub begins : (s : Layout) (steps : List Step) → IsLayout s → IsPlanOf s steps → (order levels : List ℕ) → AreFirsts (plan_terms steps) order → AreLevelsIn order levels
-    → (table : List TableRow) (fixed : List (Option ℕ)) → length fixed ≡ length s.terms → (search : Search) → search.fixed ≡ fixed_in order fixed
-    → (left : List (List Elem)) × AreLeft table search left × AllPairs (λ x y. x ≢ y) left × ((elements : List Elem) → Contains left elements ↔ IsFound table (leveled_atoms levels steps) (fixed_in order fixed) elements)
-    → (left : List (List Elem)) × HasLeft table (record { levels = levels; search = search }) left × AreMatches table s fixed left
-begins s steps layout plan order levels firsts are table fixed long search same (all, goes_on, apart, each) = (
-  map (images_of levels) all,
-  record {
-    by_level = all;
-    are = refl;
-    goes_on = goes_on;
-    count = are.count ∙ sym whole;
-    covers = λ level below. levels_cover order levels are level (subst (λ (n : ℕ). level < n) whole below);
-  },
-  matches_of s steps layout plan order levels firsts are table fixed long all apart each,
-)
-  where
-    whole : length search.fixed ≡ length order
-    whole = ap length same ∙ length-map order _
+-- ---- what a search by a plan begins with
+
+module _ (s : Layout) (steps : List Step) (layout : IsLayout s) (plan : IsPlanOf s steps) (fixed : List (Option ℕ)) (long : length fixed ≡ length s.terms) (l : Leveled) (are : AreLeveled steps fixed l) where
+  whole : length l.fixed.items ≡ length are.order
+  whole = ap length are.fixed_are ∙ length-map are.order _
+
+  pub leveled_count : length l.levels ≡ length l.fixed.items
+  leveled_count = are.levels_are.count ∙ sym whole
+
+  pub leveled_within : All (λ level. level < length l.fixed.items) l.levels
+  leveled_within = subst (λ (n : ℕ). All (λ level. level < n) l.levels) (sym whole) (levels_within are.order l.levels are.levels_are)
+
+  pub leveled_terms : length l.levels ≡ length s.terms
+  leveled_terms = levels_count s steps layout plan are.order l.levels are.firsts are.levels_are
+
+  pub leveled_order : AreLevelsBy steps l.levels
+  leveled_order = record { order = are.order; firsts = are.firsts; levels_are = are.levels_are }
+
+  module _ (more : List Condition) (under : (c : Condition) → Contains more c → IsUnder (length are.order) c) (conditions : List Condition) (adds : conditions ≡ l.conditions.items ++ more) where
+    are_conditions : leveled_atoms l.levels steps ++ more ≡ conditions
+    are_conditions = ap (λ (atoms : List Condition). atoms ++ more) (sym are.atoms_are) ∙ sym adds
+
+    on_these : AreOnLevels (length l.fixed.items) conditions
+    on_these = subst (λ (n : ℕ). AreOnLevels n conditions) (sym whole) (subst (AreOnLevels (length are.order)) are_conditions (on_levels s steps layout plan are.order l.levels are.firsts are.levels_are more under))
+
+    -- the images of what is found are matches, each once, and each match that meets the other conditions is among them
+    module _ (search : Search) (same : search.fixed ≡ l.fixed.items) (begins : BeginsWith conditions l.fixed.items search) (table : List TableRow) where
+      each : (elements : List Elem) → Contains (begins table).0 elements ↔ IsFound table (leveled_atoms l.levels steps ++ more) (fixed_in are.order fixed) elements
+      each elements = subst (λ (os : List (Option ℕ)). Contains (begins table).0 elements ↔ IsFound table (leveled_atoms l.levels steps ++ more) os elements) are.fixed_are
+          (subst (λ (cs : List Condition). Contains (begins table).0 elements ↔ IsFound table cs l.fixed.items elements) (sym are_conditions) ((begins table).3 elements))
+
+      abbrev all_images : List (List Elem)
+      all_images = map (images_of l.levels) (begins table).0
+
+      all_left : HasLeft table (record { levels = l.levels; search = search }) all_images
+      all_left = record {
+        by_level = (begins table).0;
+        are = refl;
+        goes_on = (begins table).1;
+        count = leveled_count ∙ ap length (sym same);
+        covers = λ level below. levels_cover are.order l.levels are.levels_are level (subst (λ (n : ℕ). level < n) (ap length same ∙ whole) below);
+      }
+
+      all_apart : AllPairs (λ x y. x ≢ y) all_images
+      all_apart = images_apart s steps layout plan are.order l.levels are.firsts are.levels_are more under table fixed long (begins table).0 (begins table).2 each
+
+      all_matches : (images : List Elem) → Contains all_images images → IsShapeMatch table s images × IsFixed fixed images
+      all_matches = only_matches s steps layout plan are.order l.levels are.firsts are.levels_are more under table fixed long (begins table).0 (begins table).2 each
+
+      all_there : (images : List Elem) → IsShapeMatch table s images → IsFixed fixed images → ((c : Condition) → Contains more c → Meets table (images_of are.order images) c) → Contains all_images images
+      all_there = match_there s steps layout plan are.order l.levels are.firsts are.levels_are more under table fixed long (begins table).0 (begins table).2 each
+
+  no_one : (c : Condition) → Contains [] c → ⊥
+  no_one c there = let below = there.1 in omega (arith, below)
+
+  no_under : (c : Condition) → Contains [] c → IsUnder (length are.order) c
+  no_under c there = absurd (no_one c there)
+
+  no_more : l.conditions.items ≡ l.conditions.items ++ []
+  no_more = sym (append-nil l.conditions.items)
+
+  -- with the atoms alone
+  pub atoms_on : AreOnLevels (length l.fixed.items) l.conditions.items
+  atoms_on = on_these [] no_under l.conditions.items no_more
+
+  begins_all : (search : Search) → search.fixed ≡ l.fixed.items → BeginsWith l.conditions.items l.fixed.items search → (table : List TableRow)
+      → (left : List (List Elem)) × HasLeft table (record { levels = l.levels; search = search }) left × AreMatches table s fixed left
+  begins_all search same begins table = (
+    all_images [] no_under l.conditions.items no_more search same begins table,
+    all_left [] no_under l.conditions.items no_more search same begins table,
+    record {
+      distinct = all_apart [] no_under l.conditions.items no_more search same begins table;
+      each = λ images. (
+        all_matches [] no_under l.conditions.items no_more search same begins table images,
+        λ h. all_there [] no_under l.conditions.items no_more search same begins table images h.0 h.1 (λ c there. absurd (no_one c there)),
+      );
+    },
+  )
+
+  pub begins_by : (m : PlannedSearch) → BeginsBy l m → (table : List TableRow) → (left : List (List Elem)) × HasLeft table m left × AreMatches table s fixed left
+  begins_by m by table =
+      subst (λ (levels : List ℕ). (left : List (List Elem)) × HasLeft table (record { levels = levels; search = m.search }) left × AreMatches table s fixed left) (sym by.levels_are)
+      (begins_all m.search by.fixed_are by.begins table)
+
+  -- and with the twins of trees besides
+  module _ (trees : Trees) (terms : trees.terms ≡ length s.terms) (below : All (IsEntryBelow trees.terms) trees.entries) (conditions : List Condition) (adds : AddsTwins (AreTwinsBy l.levels trees.entries) l.conditions.items conditions) where
+    entries_below : All (IsEntryBelow (length l.levels)) trees.entries
+    entries_below = subst (λ (n : ℕ). All (IsEntryBelow n) trees.entries) (terms ∙ sym leveled_terms) below
+
+    twins_are_under : (c : Condition) → Contains adds.0 c → IsUnder (length are.order) c
+    twins_are_under c there = twins_under are.order l.levels are.levels_are trees.entries entries_below c (adds.2 c there)
+
+    pub twins_on : AreOnLevels (length l.fixed.items) conditions
+    twins_on = on_these adds.0 twins_are_under conditions adds.1
+
+    begins_passing : (search : Search) → search.fixed ≡ l.fixed.items → BeginsWith conditions l.fixed.items search → (table : List TableRow)
+        → (left : List (List Elem)) × HasLeft table (record { levels = l.levels; search = search }) left × ArePassing table s trees fixed left
+    begins_passing search same begins table = (
+      all_images adds.0 twins_are_under conditions adds.1 search same begins table,
+      all_left adds.0 twins_are_under conditions adds.1 search same begins table,
+      record {
+        distinct = all_apart adds.0 twins_are_under conditions adds.1 search same begins table;
+        only = all_matches adds.0 twins_are_under conditions adds.1 search same begins table;
+        all = λ images match fixed_are passes. all_there adds.0 twins_are_under conditions adds.1 search same begins table images match fixed_are
+            (λ c there. twins_met are.order l.levels are.levels_are trees.entries entries_below table images (match.count ∙ sym leveled_terms) passes c (adds.2 c there));
+      },
+    )
+
+    pub passing_by : (m : PlannedSearch) → m.levels ≡ l.levels → m.search.fixed ≡ l.fixed.items → BeginsWith conditions l.fixed.items m.search → (table : List TableRow)
+        → (left : List (List Elem)) × HasLeft table m left × ArePassing table s trees fixed left
+    passing_by m levels_are fixed_are begins table =
+        subst (λ (levels : List ℕ). (left : List (List Elem)) × HasLeft table (record { levels = levels; search = m.search }) left × ArePassing table s trees fixed left) (sym levels_are)
+        (begins_passing m.search fixed_are begins table)

@@ -11,6 +11,7 @@ use Rattle.dl_base.specs.declared.element.Elem.TheVariants as elem
 use Rattle.dl_base.proofs.ElemLemmas.{elem_total}
 use Rattle.dl_base.proofs.RisingLemmas.{contains_cases, contains_later, contains_first}
 use Rattle.join_ops.specs.Levels.{Offers}
+use Rattle.join_ops.specs.declared.level.Level.{Level}
 use Rattle.join_ops.specs.declared.source.Source.{Source}
 use Rattle.join_ops.specs.declared.source.Source.TheVariants as source
 
@@ -67,7 +68,8 @@ pub named_by : Source → List Elem
 named_by (source.Named n) = elem.Named n ∷ []
 named_by (source.Concept c) = []
 named_by (source.Outgoing r) = []
-named_by (source.Edge r n) = []
+named_by (source.Edge g) = []
+named_by (source.Twin g t) = []
 
 -- all that a source may give
 pub known_by : List TableRow → Source → List Elem
@@ -78,15 +80,16 @@ unfolding known_by named_by
 offered_known rows (source.Named n) front e h = subst (λ z. Contains (elem.Named n ∷ elems rows) z) (sym h) (contains_first (elem.Named n) (elems rows))
 offered_known rows (source.Concept c) front e h = concept_elem rows c e h
 offered_known rows (source.Outgoing r) front e h = (edge_elems rows r e h.0 h.1).0
-offered_known rows (source.Edge r n) front e h = (edge_elems rows r h.0 e h.2).1
+offered_known rows (source.Edge g) front e h = (edge_elems rows g.role h.0 e h.2).1
+offered_known rows (source.Twin g t) front e h = (edge_elems rows g.role h.0.0 e h.0.2).1
 
--- all that sources may give
-named_all : List Source → List Elem
+-- all that levels may give
+named_all : List Level → List Elem
 named_all [] = []
-named_all (s ∷ sources) = named_by s ++ named_all sources
+named_all (l ∷ levels) = named_by l.source ++ named_all levels
 
-pub known_all : List TableRow → List Source → List Elem
-known_all rows sources = named_all sources ++ elems rows
+pub known_all : List TableRow → List Level → List Elem
+known_all rows levels = named_all levels ++ elems rows
 
 widen : (xs ys zs : List Elem) (e : Elem) → Contains (xs ++ zs) e → Contains ((xs ++ ys) ++ zs) e
 widen [] ys zs e h = Contains-append_right ys zs e h
@@ -96,24 +99,24 @@ widen (x ∷ xs) ys zs e h = by (contains_cases x (xs ++ zs) e h) (widen xs ys z
     by (inl q) more = subst (λ z. Contains (z ∷ ((xs ++ ys) ++ zs)) e) q (contains_first e ((xs ++ ys) ++ zs))
     by (inr k) more = contains_later x ((xs ++ ys) ++ zs) e (more k)
 
-named_more : (sources : List Source) (k : ℕ) (s : Source) (rest : List Elem) (e : Elem) → slice_get sources k ≡ Some s → Contains (named_by s ++ rest) e → Contains (named_all sources ++ rest) e
+named_more : (levels : List Level) (k : ℕ) (l : Level) (rest : List Elem) (e : Elem) → slice_get levels k ≡ Some l → Contains (named_by l.source ++ rest) e → Contains (named_all levels ++ rest) e
 unfolding named_all
-named_more [] k s rest e at h = absurd cc
-named_more (t ∷ sources) zero s rest e at h =
-    let same : t ≡ s = cc in
-    let P : Source → Type 0 = λ u. Contains ((named_by u ++ named_all sources) ++ rest) e in
-    subst P (sym same) (widen (named_by s) (named_all sources) rest e h)
-named_more (t ∷ sources) (suc k) s rest e at h =
-    let later = named_more sources k s rest e at h in
-    rw append_assoc (Contains-append_right (named_by t) (named_all sources ++ rest) e later)
+named_more [] k l rest e at h = absurd cc
+named_more (m ∷ levels) zero l rest e at h =
+    let same : m ≡ l = cc in
+    let P : Level → Type 0 = λ x. Contains ((named_by x.source ++ named_all levels) ++ rest) e in
+    subst P (sym same) (widen (named_by l.source) (named_all levels) rest e h)
+named_more (m ∷ levels) (suc k) l rest e at h =
+    let later = named_more levels k l rest e at h in
+    rw append_assoc (Contains-append_right (named_by m.source) (named_all levels ++ rest) e later)
 
 known_is : (rows : List TableRow) (s : Source) (e : Elem) → Contains (known_by rows s) e → Contains (named_by s ++ elems rows) e
 unfolding known_by
 known_is rows s e h = h
 
-pub offered_known_all : (rows : List TableRow) (sources : List Source) (k : ℕ) (s : Source) (front : List Elem) (e : Elem) → slice_get sources k ≡ Some s → Offers rows s front e → Contains (known_all rows sources) e
+pub offered_known_all : (rows : List TableRow) (levels : List Level) (k : ℕ) (l : Level) (front : List Elem) (e : Elem) → slice_get levels k ≡ Some l → Offers rows l.source front e → Contains (known_all rows levels) e
 unfolding known_all
-offered_known_all rows sources k s front e at h = named_more sources k s (elems rows) e at (known_is rows s e (offered_known rows s front e h))
+offered_known_all rows levels k l front e at h = named_more levels k l (elems rows) e at (known_is rows l.source e (offered_known rows l.source front e h))
 
 one_if_less : Ordering → ℕ
 one_if_less Less = 1

@@ -6,11 +6,11 @@ use Rattle.std.proofs.lemmas.List.{append_assoc, take_more_set, length-take-le, 
 use Rattle.std.proofs.lemmas.Option.{slice_get-get_or}
 use Rattle.dl_base.specs.Tables.{TableRow, IsLeastAbove}
 use Rattle.dl_base.specs.declared.element.Elem.{Elem}
-use Rattle.query_shape.specs.declared.layout.ShapeAtom.{ShapeAtom}
 use Rattle.join_ops.specs.Joins.{SearchPlace, Start, Behind, Past, IsFound, IsBehind}
-use Rattle.join_ops.specs.Levels.{fixed_of, Fits, IsAt, IsLeast, IsSearch}
-use Rattle.join_ops.specs.declared.source.Source.{Source}
-use Rattle.join_ops.proofs.LevelLemmas.{goes_deeper, goes_back, gives_least, gives_none, starts, stands, stands_past}
+use Rattle.join_ops.specs.Levels.{fixed_on, Fits, IsAt, IsLeast, IsSearch, IsSound}
+use Rattle.join_ops.specs.declared.condition.Condition.{Condition}
+use Rattle.join_ops.specs.declared.level.Level.{Level}
+use Rattle.join_ops.proofs.LevelLemmas.{level_within, goes_deeper, goes_back, gives_least, gives_none, starts, stands, stands_past}
 use Rattle.join_ops.proofs.Rooms.{room_falls, known_all, offered_known_all}
 use Rattle.join_ops.proofs.Weights.{weight, deeper_falls, back_falls}
 
@@ -19,9 +19,6 @@ take_all zero [] most = refl
 take_all zero (x ∷ xs) most = absurd (omega (arith, most))
 take_all (suc n) [] most = refl
 take_all (suc n) (x ∷ xs) most = ap (λ ys. x ∷ ys) (take_all n xs (omega (arith, most)))
-
-source_at : (sources : List Source) (front : List Elem) (level : ℕ) (d : Source) → length front ≡ level → level < length sources → slice_get sources (length front) ≡ Some (get_or sources level d)
-source_at sources front level d count below = rw count (slice_get-get_or sources level d below)
 
 set_last : (images : List Elem) (level : ℕ) (e : Elem) → level + 1 ≡ length (set images level e) → level < length images → set images level e ≡ take level images ++ e ∷ []
 set_last images level e last below =
@@ -35,67 +32,76 @@ take_back images level d below some =
     let less : level - 1 < length images = omega arith in
     ap (λ (n : ℕ). take n images) same ∙ take-suc images (level - 1) d less
 
-module _ (table : List TableRow) (atoms : List ShapeAtom) (sources : List Source) (images : List Elem) (level : ℕ) (below : level < length images) (search : IsSearch atoms sources (length images)) where
+module _ (table : List TableRow) (conditions : List Condition) (levels : List Level) (images : List Elem) (level : ℕ) (below : level < length images) (search : IsSearch conditions levels (length images)) where
   long : length (take level images) ≡ level
   long = length-take-le level images (omega arith)
 
-  within : level < length sources
+  within : level < length levels
   within = omega (arith, search.each)
 
-  pub deeper_step : (place : SearchPlace) (after : Option Elem) (e : Elem) (d : Source) → (level + 1 ≡ length (set images level e) → ⊥)
-      → IsLeastAbove (Fits table atoms (get_or sources level d) (take level images)) after (Some e)
-      → IsAt table atoms (map fixed_of sources) place (take level images) after → IsAt table atoms (map fixed_of sources) place (take (level + 1) (set images level e)) None
-  deeper_step place after e d more least is =
-      let next = goes_deeper table atoms sources search.sources_are place (take level images) after e (get_or sources level d) (source_at sources (take level images) level d long within)
+  level_is : (l : Level) → l ≡ get_or levels level l → slice_get levels (length (take level images)) ≡ Some l
+  level_is l at = rw long (slice_get-get_or levels level l within ∙ ap Some (sym at))
+
+  -- what a level offers and tests has its elements
+  pub sound_step : (l : Level) → l ≡ get_or levels level l → IsSound conditions (length (take level images)) l
+  sound_step l at =
+      let is = search.levels_are (length (take level images)) l (level_is l at) in
+      record { within = level_within conditions (length (take level images)) l is; under = is.checks_are.under }
+
+  pub deeper_step : (place : SearchPlace) (after : Option Elem) (e : Elem) (l : Level) → l ≡ get_or levels level l → (level + 1 ≡ length (set images level e) → ⊥)
+      → IsLeastAbove (Fits table conditions l (take level images)) after (Some e)
+      → IsAt table conditions (map fixed_on levels) place (take level images) after → IsAt table conditions (map fixed_on levels) place (take (level + 1) (set images level e)) None
+  deeper_step place after e l at more least is =
+      let next = goes_deeper table conditions levels search.levels_are place (take level images) after e l (level_is l at)
       (omega (arith, long, search.each, more, length-set images level e)) least is in
       rw (take_more_set images level e below) next
 
-  pub deeper_smaller : (after : Option Elem) (e : Elem) (d : Source) → (level + 1 ≡ length (set images level e) → ⊥)
-      → IsLeastAbove (Fits table atoms (get_or sources level d) (take level images)) after (Some e)
-      → weight (known_all table sources) (take (level + 1) (set images level e)) None (length (set images level e) - (level + 1)) < weight (known_all table sources) (take level images) after (length images - level)
-  deeper_smaller after e d more least =
-      let known = known_all table sources in
-      let less = room_falls known after e least.1 (offered_known_all table sources level (get_or sources level d) (take level images) e (slice_get-get_or sources level d within) least.0.offered) in
+  pub deeper_smaller : (after : Option Elem) (e : Elem) (l : Level) → l ≡ get_or levels level l → (level + 1 ≡ length (set images level e) → ⊥)
+      → IsLeastAbove (Fits table conditions l (take level images)) after (Some e)
+      → weight (known_all table levels) (take (level + 1) (set images level e)) None (length (set images level e) - (level + 1)) < weight (known_all table levels) (take level images) after (length images - level)
+  deeper_smaller after e l at more least =
+      let known = known_all table levels in
+      let less = room_falls known after e least.1 (offered_known_all table levels level l (take level images) e (slice_get-get_or levels level l within ∙ ap Some (sym at)) least.0.offered) in
       let falls = deeper_falls known (take level images) after e (length images - (level + 1)) less in
       let levels : length images - level ≡ suc (length images - (level + 1)) = omega arith in
       rw (take_more_set images level e below, length-set images level e, levels) falls
 
-  pub last_step : (place : SearchPlace) (after : Option Elem) (e : Elem) (d : Source) → level + 1 ≡ length (set images level e)
-      → IsLeastAbove (Fits table atoms (get_or sources level d) (take level images)) after (Some e)
-      → IsAt table atoms (map fixed_of sources) place (take level images) after → IsLeast table atoms (map fixed_of sources) place (set images level e)
-  last_step place after e d last least is =
-      let found = gives_least table atoms sources search.sources_are place (take level images) after e (get_or sources level d) (source_at sources (take level images) level d long within)
-      (omega (arith, long, search.each, last, length-set images level e)) (λ a c. rw search.each (search.below a c)) least is in
+  pub last_step : (place : SearchPlace) (after : Option Elem) (e : Elem) (l : Level) → l ≡ get_or levels level l → level + 1 ≡ length (set images level e)
+      → IsLeastAbove (Fits table conditions l (take level images)) after (Some e)
+      → IsAt table conditions (map fixed_on levels) place (take level images) after → IsLeast table conditions (map fixed_on levels) place (set images level e)
+  last_step place after e l at last least is =
+      let found = gives_least table conditions levels search.levels_are place (take level images) after e l (level_is l at)
+      (omega (arith, long, search.each, last, length-set images level e)) (λ a c. rw search.each (search.under a c)) least is in
       rw (set_last images level e last below) found
 
-  pub back_step : (place : SearchPlace) (after : Option Elem) (d : Source) (x : Elem) → (level ≡ 0 → ⊥)
-      → IsLeastAbove (Fits table atoms (get_or sources level d) (take level images)) after None
-      → IsAt table atoms (map fixed_of sources) place (take level images) after → IsAt table atoms (map fixed_of sources) place (take (level - 1) images) (Some (get_or images (level - 1) x))
-  back_step place after d x some none is =
+  pub back_step : (place : SearchPlace) (after : Option Elem) (l : Level) → l ≡ get_or levels level l → (x : Elem) → (level ≡ 0 → ⊥)
+      → IsLeastAbove (Fits table conditions l (take level images)) after None
+      → IsAt table conditions (map fixed_on levels) place (take level images) after → IsAt table conditions (map fixed_on levels) place (take (level - 1) images) (Some (get_or images (level - 1) x))
+  back_step place after l at x some none is =
       let front = take_back images level x below some in
-      goes_back table atoms sources search.sources_are place (take (level - 1) images) (get_or images (level - 1) x) after (get_or sources level d)
-      (rw (← front) (source_at sources (take level images) level d long within))
+      goes_back table conditions levels search.levels_are place (take (level - 1) images) (get_or images (level - 1) x) after l
+      (rw (← front) (level_is l at))
       (rw (← front) none) (rw (← front) is)
 
   pub back_smaller : (after : Option Elem) (x : Elem) → (level ≡ 0 → ⊥)
-      → weight (known_all table sources) (take (level - 1) images) (Some (get_or images (level - 1) x)) (length images - (level - 1)) < weight (known_all table sources) (take level images) after (length images - level)
+      → weight (known_all table levels) (take (level - 1) images) (Some (get_or images (level - 1) x)) (length images - (level - 1)) < weight (known_all table levels) (take level images) after (length images - level)
   back_smaller after x some =
-      let falls = back_falls (known_all table sources) (take (level - 1) images) after (get_or images (level - 1) x) (length images - level) in
+      let falls = back_falls (known_all table levels) (take (level - 1) images) after (get_or images (level - 1) x) (length images - level) in
       let levels : length images - (level - 1) ≡ suc (length images - level) = omega arith in
       rw (take_back images level x below some, levels) falls
 
-  pub none_step : (place : SearchPlace) (after : Option Elem) (d : Source) → level ≡ 0
-      → IsLeastAbove (Fits table atoms (get_or sources level d) (take level images)) after None
-      → IsAt table atoms (map fixed_of sources) place (take level images) after
-      → (others : List Elem) → IsFound table atoms (map fixed_of sources) others → IsBehind place others → ⊥
-  none_step place after d first none is =
-      let at : slice_get sources 0 ≡ Some (get_or sources level d) = ap (λ (n : ℕ). slice_get sources n) (sym first) ∙ slice_get-get_or sources level d within in
+  pub none_step : (place : SearchPlace) (after : Option Elem) (l : Level) → l ≡ get_or levels level l → level ≡ 0
+      → IsLeastAbove (Fits table conditions l (take level images)) after None
+      → IsAt table conditions (map fixed_on levels) place (take level images) after
+      → (others : List Elem) → IsFound table conditions (map fixed_on levels) others → IsBehind place others → ⊥
+  none_step place after l at first none is =
+      let begin : slice_get levels 0 ≡ Some l = ap (λ (n : ℕ). slice_get levels n) (sym first) ∙ slice_get-get_or levels level l within ∙ ap Some (sym at) in
       let front : take level images ≡ [] = ap (λ (n : ℕ). take n images) first in
-      gives_none table atoms sources search.sources_are place after (get_or sources level d) at
+      gives_none table conditions levels search.levels_are place after l begin
       (rw (← front) none) (rw (← front) is)
 
-pub search_along : (atoms : List ShapeAtom) (sources : List Source) (m n : ℕ) → m ≡ n → IsSearch atoms sources m → IsSearch atoms sources n
-search_along atoms sources m n same search = subst (λ (k : ℕ). IsSearch atoms sources k) same search
+pub search_along : (conditions : List Condition) (levels : List Level) (m n : ℕ) → m ≡ n → IsSearch conditions levels m → IsSearch conditions levels n
+search_along conditions levels m n same search = subst (λ (k : ℕ). IsSearch conditions levels k) same search
 
 pub deeper_below : (images : List Elem) (level : ℕ) (e : Elem) → level < length images → (level + 1 ≡ length (set images level e) → ⊥) → level + 1 < length (set images level e)
 deeper_below images level e below more = omega (arith, length-set images level e)
@@ -107,19 +113,19 @@ whole_last images d some =
     sym (take-length images) ∙ ap (λ (n : ℕ). take n images) (sym last) ∙ take-suc images (length images - 1) d less
 
 -- where a search goes on from the match that it gave last
-pub stand_step : (table : List TableRow) (atoms : List ShapeAtom) (sources : List Source) (images : List Elem) (d : Elem) → IsSearch atoms sources (length images)
-    → IsFound table atoms (map fixed_of sources) images
-    → IsAt table atoms (map fixed_of sources) (Behind images) (take (length images - 1) images) (Some (get_or images (length images - 1) d))
-stand_step table atoms sources images d search found =
+pub stand_step : (table : List TableRow) (conditions : List Condition) (levels : List Level) (images : List Elem) (d : Elem) → IsSearch conditions levels (length images)
+    → IsFound table conditions (map fixed_on levels) images
+    → IsAt table conditions (map fixed_on levels) (Behind images) (take (length images - 1) images) (Some (get_or images (length images - 1) d))
+stand_step table conditions levels images d search found =
     let whole = whole_last images d search.some in
     let front = take (length images - 1) images in
     let a = get_or images (length images - 1) d in
     let long : length front ≡ length images - 1 = length-take-le (length images - 1) images (omega arith) in
-    let at = stands table atoms sources search.sources_are front a (omega (arith, long, search.each, search.some)) (subst (IsFound table atoms (map fixed_of sources)) whole found) in
-    subst (λ (l : List Elem). IsAt table atoms (map fixed_of sources) (Behind l) front (Some a)) (sym whole) at
+    let at = stands table conditions levels search.levels_are front a (omega (arith, long, search.each, search.some)) (subst (IsFound table conditions (map fixed_on levels)) whole found) in
+    subst (λ (l : List Elem). IsAt table conditions (map fixed_on levels) (Behind l) front (Some a)) (sym whole) at
 
-pub start_step : (table : List TableRow) (atoms : List ShapeAtom) (sources : List Source) (n : ℕ) → IsSearch atoms sources n → IsAt table atoms (map fixed_of sources) Start [] None
-start_step table atoms sources n search = starts table atoms sources search.sources_are (omega (arith, search.each, search.some))
+pub start_step : (table : List TableRow) (conditions : List Condition) (levels : List Level) (n : ℕ) → IsSearch conditions levels n → IsAt table conditions (map fixed_on levels) Start [] None
+start_step table conditions levels n search = starts table conditions levels search.levels_are (omega (arith, search.each, search.some))
 
 -- so many first ones, or as many as there are
 shared_take : {X : Type 0} (n m : ℕ) (xs : List X) → (n ≡ m) ⊎ ((m ≡ length xs) × (m ≤ n)) → take n xs ≡ take m xs
@@ -127,19 +133,19 @@ shared_take n m xs (inl same) = ap (λ (k : ℕ). take k xs) same
 shared_take n m xs (inr (all, most)) = take_all n xs (omega (arith, all, most)) ∙ sym (take-length xs) ∙ ap (λ (k : ℕ). take k xs) (sym all)
 
 -- where a search goes on behind all that have so many first images as the match that it gave last
-pub past_step : (table : List TableRow) (atoms : List ShapeAtom) (sources : List Source) (images : List Elem) (d : Elem) (n level : ℕ) → IsSearch atoms sources (length images)
-    → IsFound table atoms (map fixed_of sources) images → level < length images → (n ≡ suc level) ⊎ ((suc level ≡ length images) × (suc level ≤ n))
-    → IsAt table atoms (map fixed_of sources) (Past n images) (take level images) (Some (get_or images level d))
-past_step table atoms sources images d n level search found below shared =
+pub past_step : (table : List TableRow) (conditions : List Condition) (levels : List Level) (images : List Elem) (d : Elem) (n level : ℕ) → IsSearch conditions levels (length images)
+    → IsFound table conditions (map fixed_on levels) images → level < length images → (n ≡ suc level) ⊎ ((suc level ≡ length images) × (suc level ≤ n))
+    → IsAt table conditions (map fixed_on levels) (Past n images) (take level images) (Some (get_or images level d))
+past_step table conditions levels images d n level search found below shared =
     let front = take level images in
     let a = get_or images level d in
     let long : length front ≡ level = length-take-le level images (omega (arith, below)) in
     let parts : images ≡ front ++ a ∷ drop (suc level) images =
     sym (take-append-drop (suc level) images) ∙ ap (λ (l : List Elem). l ++ drop (suc level) images) (take-suc images level d below) ∙ append_assoc front (a ∷ []) (drop (suc level) images) in
-    let at = stands_past table atoms sources search.sources_are front a (drop (suc level) images) (subst (IsFound table atoms (map fixed_of sources)) parts found) in
-    let here : IsAt table atoms (map fixed_of sources) (Past (suc level) images) front (Some a) =
-    subst (λ (l : List Elem). IsAt table atoms (map fixed_of sources) (Past (suc level) l) front (Some a)) (sym parts)
-    (subst (λ (k : ℕ). IsAt table atoms (map fixed_of sources) (Past (suc k) (front ++ a ∷ drop (suc level) images)) front (Some a)) long at) in
+    let at = stands_past table conditions levels search.levels_are front a (drop (suc level) images) (subst (IsFound table conditions (map fixed_on levels)) parts found) in
+    let here : IsAt table conditions (map fixed_on levels) (Past (suc level) images) front (Some a) =
+    subst (λ (l : List Elem). IsAt table conditions (map fixed_on levels) (Past (suc level) l) front (Some a)) (sym parts)
+    (subst (λ (k : ℕ). IsAt table conditions (map fixed_on levels) (Past (suc k) (front ++ a ∷ drop (suc level) images)) front (Some a)) long at) in
     record {
       front_is = here.front_is;
       beyond = λ others other behind. here.beyond others other (rw (← same images refl, ← same others (other.count ∙ sym found.count)) behind);

@@ -1,13 +1,13 @@
--- Searches in tables for elements that meet atoms, by the levels of terms, and what these have still to give.
-use Rattle.std.specs.Prelude.{◌≡◌, ◌≢◌, ◌↔◌, ℕ, Bool, true, false, List, [], ◌∷◌, Option, Some, length, take, slice_get, Contains}
+-- Searches in tables for elements that meet conditions, by the levels of terms, and what these have still to give.
+use Rattle.std.specs.Prelude.{◌≡◌, ◌≢◌, ◌↔◌, ℕ, Bool, true, false, List, [], ◌∷◌, Option, Some, length, take, slice_get, AllPairs, Contains}
 use Rattle.std.specs.Cmp.Lexicographic.{slice_cmp}
 use Rattle.std.specs.List.Sorted.{IsStrictlySortedBy}
 use Rattle.std.specs.declared.cmp.Ordering.TheVariants.{Less}
 use Rattle.dl_base.specs.Tables.{TableRow, elem_cmp}
 use Rattle.dl_base.specs.declared.element.Elem.{Elem}
 use Rattle.dl_base.specs.declared.element.Elem.TheVariants as elem
-use Rattle.query_shape.specs.Shape.{HoldsAt}
-use Rattle.query_shape.specs.declared.layout.ShapeAtom.{ShapeAtom}
+use Rattle.join_ops.specs.Conditions.{Meets}
+use Rattle.join_ops.specs.declared.condition.Condition.{Condition}
 
 -- each fixed term is on the individual of its number
 abbrev pub IsFixed : List (Option ℕ) → List Elem → Type 0
@@ -20,17 +20,17 @@ pub data SearchPlace : Type 0 where
   Past : ℕ → List Elem → SearchPlace
   End : SearchPlace
 
--- the atoms that are searched for, the individual of each fixed one of their terms, and how far the search has come; all by the
+-- the conditions that are to be met, the individual of each fixed one of their terms, and how far the search has come; all by the
 -- levels of the terms
 pub record Search : Type 0 where
-  pub atoms : List ShapeAtom
+  pub conditions : List Condition
   pub fixed : List (Option ℕ)
   pub place : SearchPlace
 
--- an image for each term, such that the fixed terms are on their individuals and each atom is a row of the table
-pub record IsFound (table : List TableRow) (atoms : List ShapeAtom) (fixed : List (Option ℕ)) (images : List Elem) : Type 0 where
+-- an image for each term, such that the fixed terms are on their individuals and each condition is met
+pub record IsFound (table : List TableRow) (conditions : List Condition) (fixed : List (Option ℕ)) (images : List Elem) : Type 0 where
   pub count : length images ≡ length fixed
-  pub atoms_hold : (a : ShapeAtom) → Contains atoms a → HoldsAt table images a
+  pub met : (c : Condition) → Contains conditions c → Meets table images c
   pub fixed_are : IsFixed fixed images
 
 -- the images are above those that were given last, or so many first ones of them are
@@ -45,17 +45,22 @@ abbrev pub IsAway : SearchPlace → Type 0
 IsAway place = (last : List Elem) → place ≡ Behind last → ⊥
 
 -- what was given last is a match
-abbrev pub IsLast : List TableRow → List ShapeAtom → List (Option ℕ) → SearchPlace → Type 0
-IsLast table atoms fixed Start = Unit {0}
-IsLast table atoms fixed (Behind last) = IsFound table atoms fixed last
-IsLast table atoms fixed (Past n last) = IsFound table atoms fixed last
-IsLast table atoms fixed End = Unit {0}
+abbrev pub IsLast : List TableRow → List Condition → List (Option ℕ) → SearchPlace → Type 0
+IsLast table conditions fixed Start = Unit {0}
+IsLast table conditions fixed (Behind last) = IsFound table conditions fixed last
+IsLast table conditions fixed (Past n last) = IsFound table conditions fixed last
+IsLast table conditions fixed End = Unit {0}
 
 -- The search has these matches in the table still to give, in this order.
 pub record AreLeft (table : List TableRow) (search : Search) (left : List (List Elem)) : Type 0 where
-  pub last : IsLast table search.atoms search.fixed search.place
+  pub last : IsLast table search.conditions search.fixed search.place
   pub rising : IsStrictlySortedBy (slice_cmp elem_cmp) left
-  pub each : (images : List Elem) → Contains left images ↔ (IsFound table search.atoms search.fixed images × IsBehind search.place images)
+  pub each : (images : List Elem) → Contains left images ↔ (IsFound table search.conditions search.fixed images × IsBehind search.place images)
+
+-- in any table the search has all left that is found, each once
+abbrev pub BeginsWith : List Condition → List (Option ℕ) → Search → Type 0
+BeginsWith conditions fixed search = (table : List TableRow) → (left : List (List Elem)) × AreLeft table search left × AllPairs (λ x y. x ≢ y) left
+    × ((elements : List Elem) → Contains left elements ↔ IsFound table conditions fixed elements)
 
 -- the search stands behind the first of these, and has the others left
 pub record IsNext (table : List TableRow) (left : List (List Elem)) (search : Search) : Type 0 where

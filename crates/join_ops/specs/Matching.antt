@@ -3,6 +3,7 @@ use Rattle.std.specs.Prelude.{◌≡◌, ◌≢◌, ◌⊎◌, ◌↔◌, ◌<�
 use Rattle.dl_base.specs.Tables.{TableRow}
 use Rattle.dl_base.specs.declared.element.Elem.{Elem}
 use Rattle.query_shape.specs.Shape.{Layout, IsShapeMatch}
+use Rattle.tree_witness.specs.Trees.{Trees, PassesBy}
 use Rattle.join_ops.specs.Joins.{Search, SearchPlace, Behind, Past, IsBehind, IsFixed, AreLeft}
 use Rattle.join_ops.specs.Orders.{AgreeUpTo, images_of}
 
@@ -10,6 +11,12 @@ use Rattle.join_ops.specs.Orders.{AgreeUpTo, images_of}
 pub record AreMatches (table : List TableRow) (s : Layout) (fixed : List (Option ℕ)) (matches : List (List Elem)) : Type 0 where
   pub distinct : AllPairs (λ x y. x ≢ y) matches
   pub each : (images : List Elem) → Contains matches images ↔ (IsShapeMatch table s images × IsFixed fixed images)
+
+-- matches of the shape in the table that place the fixed terms so, each once, and among them all that pass by these trees
+pub record ArePassing (table : List TableRow) (s : Layout) (trees : Trees) (fixed : List (Option ℕ)) (matches : List (List Elem)) : Type 0 where
+  pub distinct : AllPairs (λ x y. x ≢ y) matches
+  pub only : (images : List Elem) → Contains matches images → IsShapeMatch table s images × IsFixed fixed images
+  pub all : (images : List Elem) → IsShapeMatch table s images → IsFixed fixed images → PassesBy trees images → Contains matches images
 
 -- by number, the level of each term, and the search by these levels
 pub record PlannedSearch : Type 0 where

@@ -1,9 +1,10 @@
 -- The order in which terms get their elements by a plan, and what atoms and images are by it. The level of a term is its place
 -- in the order.
-use Rattle.std.specs.Prelude.{◌≡◌, ◌↔◌, ◌<◌, ℕ, List, [], ◌∷◌, ◌++◌, length, map, Contains, Option, None, Some, slice_get, slice_index, slice_index_or}
+use Rattle.std.specs.Prelude.{◌≡◌, ◌↔◌, ◌<◌, ℕ, List, [], ◌∷◌, length, map, Option, None, Some, slice_get, slice_index, slice_index_or}
 use Rattle.std.specs.List.{flat_map}
 use Rattle.dl_base.specs.declared.element.Elem.{Elem}
 use Rattle.dl_base.specs.declared.element.Elem.TheVariants as elem
+use Rattle.query_shape.specs.Shape.{AreFirsts}
 use Rattle.query_shape.specs.declared.layout.ShapeAtom.{ShapeAtom}
 use Rattle.query_shape.specs.declared.layout.ShapeAtom.TheVariants as shape
 use Rattle.join_plan.specs.declared.steps.AccessPath.{AccessPath}
@@ -21,12 +22,6 @@ path_terms (path.CheckPair r n m) = n ∷ m ∷ []
 -- those of all steps, one path behind the other
 abbrev pub plan_terms : List Step → List ℕ
 plan_terms steps = flat_map (λ step. path_terms step.path) steps
-
--- the distinct ones of these numbers, in the order in which they first occur
-pub data AreFirsts : List ℕ → List ℕ → Type 0 where
-  no_number : AreFirsts [] []
-  known_number : {all firsts : List ℕ} (k : ℕ) → AreFirsts all firsts → Contains firsts k → AreFirsts (all ++ k ∷ []) firsts
-  new_number : {all firsts : List ℕ} (k : ℕ) → AreFirsts all firsts → (Contains firsts k → ⊥) → AreFirsts (all ++ k ∷ []) (firsts ++ k ∷ [])
 
 -- by number, the level that each term has in this order
 pub record AreLevelsIn (order levels : List ℕ) : Type 0 where

@@ -1,61 +1,63 @@
-//! Searches for elements that meet atoms, by the levels of terms.
-ghost use Rattle.std.specs.Prelude.{◌≡◌, ◌≢◌, ◌↔◌, List, AllPairs, Contains, length, IfOk};
+//! Searches for elements that meet conditions, by the levels of terms.
+ghost use Rattle.std.specs.Prelude.{◌≡◌, List, length, IfOk};
 ghost use Rattle.std.specs.Bool.{OnFalse};
 ghost use Rattle.dl_base.specs.Tables.{TableRow};
 ghost use Rattle.dl_base.specs.declared.element.Elem.{Elem as AnyElem};
-ghost use Rattle.join_ops.specs.Joins.{Advances, AreLeft, Behind, IsAway, IsFound, SkipsAlike};
+ghost use Rattle.join_ops.specs.Joins.{Advances, AreLeft, BeginsWith, Behind, IsAway, SkipsAlike};
 ghost use Rattle.join_ops.specs.Levels.{AreOnLevels};
 
+use crate::condition::Condition;
+use crate::level::{Level, levels};
 use crate::search::{At, resume};
-use crate::source::{Source, sources};
-use dl_base::{Elem, Items, Tables};
-use query_shape::ShapeAtom;
+use dl_base::{Elem, Hint, Tables};
 use std::alloc::{AllocError, Global};
 use std::marker::Model;
 
-/// A search for elements that meet atoms, which gives them in rising order. It keeps one element for each level, and no
+/// A search for elements that meet conditions, which gives them in rising order. It keeps one element for each level, and no
 /// list of what it gives.
 #[derive(Debug, Drop)]
 pub(crate) struct LevelSearch {
-    atoms: Items<ShapeAtom>,
-    sources: Vec<Source>,
+    conditions: Vec<Condition>,
+    levels: Vec<Level>,
     elements: Vec<Elem>,
+    hints: Vec<Hint>,
     at: At,
 }
 
 impl Model for LevelSearch {
-    ghost use Rattle.std.specs.Prelude.{length, map};
+    ghost use Rattle.std.specs.Prelude.{◌≡◌, length, map};
     ghost use Rattle.join_ops.specs.Joins.{Search};
 
     ghost Value = { Search };
 
-    ghost use Rattle.join_ops.specs.Levels.{IsSearch, fixed_of, place_at};
+    ghost use Rattle.join_ops.specs.Levels.{IsSearch, fixed_on, place_at};
 
-    ghost view = { λ m. record { atoms = m.atoms; fixed = map fixed_of m.sources.items; place = place_at m.at m.elements.items } };
+    ghost view = { λ m. record { conditions = m.conditions.items; fixed = map fixed_on m.levels.items; place = place_at m.at m.elements.items } };
 
-    ghost invariant = { λ m. IsSearch m.atoms m.sources.items (length m.elements.items) };
+    ghost invariant = { λ m. IsSearch m.conditions.items m.levels.items (length m.elements.items) × (length m.hints.items ≡ length m.elements.items) };
 }
 
 impl LevelSearch {
-    /// The search for elements that meet the atoms and are on the individual of each fixed level. In any table it begins
+    /// The search for elements that meet the conditions and are on the individual of each fixed level. In any table it begins
     /// with all of them left.
     pub(crate) fn new(
         alloc: Global,
-        atoms: Items<ShapeAtom>,
+        conditions: Vec<Condition>,
         fixed: &[Option<u32>],
     ) -> Result<LevelSearch, AllocError>
-        requires { AreOnLevels (length fixed.now) atoms }
+        requires { AreOnLevels (length fixed.now) conditions.items }
         ensures fixed { IfOk result (λ m. m.fixed ≡ fixed.now) }
         ensures away { IfOk result (λ m. IsAway m.place) }
-        ensures left { IfOk result (λ m. (table : List TableRow) → (left : List (List AnyElem)) × AreLeft table m left
-            × AllPairs (λ x y. x ≢ y) left × ((elements : List AnyElem) → Contains left elements ↔ IsFound table atoms fixed.now elements)) }
+        ensures left { IfOk result (BeginsWith conditions.items fixed.now) }
     {
-        let sources = sources(alloc, atoms.items(), fixed)?;
+        let levels = levels(alloc, conditions.as_slice(), fixed)?;
         let elements = vec![in alloc; Elem::Named(0); fixed.len()]?;
+        let hints = vec![in alloc; Hint { place: 0 }; fixed.len()]?;
         Ok(LevelSearch {
-            atoms,
-            sources,
+            conditions,
+            levels,
             elements,
+            hints,
             at: At::Start,
         })
     }
@@ -68,9 +70,10 @@ impl LevelSearch {
     {
         let found = resume(
             t,
-            self.atoms.items(),
-            self.sources.as_slice(),
+            self.conditions.as_slice(),
+            self.levels.as_slice(),
             self.elements.as_mut_slice(),
+            self.hints.as_mut_slice(),
             self.at,
         );
         self.at = if found { At::Behind } else { At::End };

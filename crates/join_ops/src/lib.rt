@@ -2,11 +2,13 @@
 #![tactic(auto)]
 
 mod by_levels;
+mod condition;
 mod level;
 mod matches;
 mod order;
 mod search;
 mod source;
+mod twins;
 
 pub use matches::Matches;
 

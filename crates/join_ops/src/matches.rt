@@ -4,16 +4,20 @@ ghost use Rattle.dl_base.specs.Tables.{TableRow};
 ghost use Rattle.dl_base.specs.declared.element.Elem.{Elem as AnyElem};
 ghost use Rattle.join_plan.specs.Plans.{IsPlanOf};
 ghost use Rattle.join_ops.specs.Joins.{Behind};
-ghost use Rattle.join_ops.specs.Matching.{AreMatches, GoesTo, HasLeft, SkipsAgreeing};
+ghost use Rattle.join_ops.specs.Levels.{AreOnLevels};
+ghost use Rattle.join_ops.specs.Matching.{AreMatches, ArePassing, GoesTo, HasLeft, SkipsAgreeing};
 ghost use Rattle.join_ops.specs.Orders.{AreLevelsBy, images_of};
+ghost use Rattle.join_ops.specs.Planned.{BeginsBy};
 
 use crate::by_levels::LevelSearch;
-use crate::order::{atoms_by_level, fixed_by_level, levels_in, order_of};
+use crate::order::{Leveled, leveled_by};
+use crate::twins::add_twins;
 use dl_base::{Elem, Items, Tables};
 use join_plan::Plan;
 use query_shape::Shape;
 use std::alloc::{AllocError, Global};
 use std::marker::Model;
+use tree_witness::TreeWitnesses;
 
 /// A search for the matches of a shape by a plan, which gives them one after another. Terms get their elements in the order
 /// in which the paths of the plan come to them. It keeps one element for each term, and no list of matches.
@@ -51,14 +55,47 @@ impl Matches {
         ensures levels { IfOk result (λ m. AreLevelsBy p.now m.levels) }
         ensures count { IfOk result (λ m. length m.levels ≡ length s.now.terms) }
     {
-        let order = order_of(alloc, s.terms(), p.steps())?;
-        let levels = levels_in(alloc, order.as_slice())?;
-        let atoms = atoms_by_level(alloc, p.steps(), levels.items())?;
-        let fixed = fixed_by_level(alloc, order.as_slice(), fixed)?;
-        let search = LevelSearch::new(alloc, atoms, fixed.as_slice())?;
-        let images = vec![in alloc; Elem::Named(0); fixed.len()]?;
+        let leveled = leveled_by(alloc, s, p, fixed)?;
+        Matches::by_level(alloc, leveled)
+    }
+
+    /// As `new`, for a search that leaves matches out which don't pass by the tree witnesses: a term that has to have another's
+    /// element, as soon as a third one is on a witness, gets that element alone. In any table it begins with matches alone,
+    /// among which are all that pass.
+    pub fn with_trees(
+        alloc: Global,
+        s: &Shape,
+        p: &Plan,
+        fixed: &[Option<u32>],
+        trees: &TreeWitnesses,
+    ) -> Result<Matches, AllocError>
+        requires plan { IsPlanOf s.now p.now }
+        requires fixed { length fixed.now ≡ length s.now.terms }
+        requires trees { trees.now.terms ≡ length s.now.terms }
+        ensures left { IfOk result (λ m. (table : List TableRow) → (left : List (List AnyElem)) × HasLeft table m left × ArePassing table s.now trees.now fixed.now left) }
+        ensures levels { IfOk result (λ m. AreLevelsBy p.now m.levels) }
+        ensures count { IfOk result (λ m. length m.levels ≡ length s.now.terms) }
+    {
+        let mut leveled = leveled_by(alloc, s, p, fixed)?;
+        add_twins(
+            &mut leveled.conditions,
+            trees.entries(),
+            leveled.levels.items(),
+        )?;
+        Matches::by_level(alloc, leveled)
+    }
+
+    /// The search for elements that meet the conditions and are on the individual of each fixed level.
+    fn by_level(alloc: Global, leveled: Leveled) -> Result<Matches, AllocError>
+        requires on { AreOnLevels (length leveled.fixed.items) leveled.conditions.items }
+        requires count { length leveled.levels ≡ length leveled.fixed.items }
+        requires within { All (λ level. level < length leveled.fixed.items) leveled.levels }
+        ensures { IfOk result (BeginsBy leveled) }
+    {
+        let images = vec![in alloc; Elem::Named(0); leveled.fixed.len()]?;
+        let search = LevelSearch::new(alloc, leveled.conditions, leveled.fixed.as_slice())?;
         Ok(Matches {
-            levels,
+            levels: leveled.levels,
             search,
             images,
         })

@@ -1,17 +1,52 @@
 //! The order in which terms get their elements by a plan.
 ghost use Rattle.std.specs.Prelude.{◌≡◌, ◌≢◌, ◌<◌, ◌++◌, ◌^◌, ◌∷◌, [], ℕ, List, All, AllPairs, Contains, IfOk, OnOk, length, map, slice_get, slice_index, Some};
-ghost use Rattle.query_shape.specs.Shape.{IsBelow};
+ghost use Rattle.query_shape.specs.Shape.{AreFirsts, IsBelow, IsLayout};
 ghost use Rattle.query_shape.specs.declared.layout.ShapeAtom.TheVariants as shape;
 ghost use Rattle.join_plan.specs.PlanLaws.{atom_of};
-ghost use Rattle.join_ops.specs.Orders.{AreFirsts, AreLevelsIn, fixed_in, leveled, path_terms, plan_terms};
+ghost use Rattle.join_plan.specs.Plans.{IsPlanOf};
+ghost use Rattle.join_ops.specs.Orders.{AreLevelsIn, fixed_in, leveled, path_terms, plan_terms};
+ghost use Rattle.join_ops.specs.Planned.{AreLeveled, leveled_atoms};
 
+use crate::condition::Condition;
 use dl_base::{Items, Role};
-use join_plan::{AccessPath, Step};
-use query_shape::ShapeAtom;
+use join_plan::{AccessPath, Plan, Step};
+use query_shape::{Shape, ShapeAtom};
 use std::alloc::{AllocError, Global};
 
+/// What a search by a plan is told, by the levels of terms: the level of each term by its number, what the elements have to meet,
+/// and the individual of each fixed level.
+#[derive(Debug, Drop)]
+pub(crate) struct Leveled {
+    pub(crate) levels: Items<u32>,
+    pub(crate) conditions: Vec<Condition>,
+    pub(crate) fixed: Vec<Option<u32>>,
+}
+
+/// By the levels of terms, in the order of the plan: the atoms of the shape, and what is fixed.
+pub(crate) fn leveled_by(
+    alloc: Global,
+    s: &Shape,
+    p: &Plan,
+    fixed: &[Option<u32>],
+) -> Result<Leveled, AllocError>
+    requires plan { IsPlanOf s.now p.now }
+    requires fixed { length fixed.now ≡ length s.now.terms }
+    ensures layout { IsLayout s.now }
+    ensures by_level { IfOk result (AreLeveled p.now fixed.now) }
+{
+    let order = order_of(alloc, s.terms(), p.steps())?;
+    let levels = levels_in(alloc, order.as_slice())?;
+    let conditions = atoms_by_level(alloc, p.steps(), levels.items())?;
+    let fixed = fixed_by_level(alloc, order.as_slice(), fixed)?;
+    Ok(Leveled {
+        levels,
+        conditions,
+        fixed,
+    })
+}
+
 /// The terms, so many, in the order in which the paths of the steps first come to them.
-pub(crate) fn order_of(alloc: Global, terms: usize, steps: &[Step]) -> Result<Vec<u32>, AllocError>
+fn order_of(alloc: Global, terms: usize, steps: &[Step]) -> Result<Vec<u32>, AllocError>
     ensures { IfOk result (λ order. AreFirsts (plan_terms steps.now) order.items) }
 {
     let mut order = Vec::with_capacity(alloc, terms)?;
@@ -54,7 +89,7 @@ fn add(order: &mut Vec<u32>, term: u32) -> Result<(), AllocError>
 }
 
 /// By number, the level that each term has in the order.
-pub(crate) fn levels_in(alloc: Global, order: &[u32]) -> Result<Items<u32>, AllocError>
+fn levels_in(alloc: Global, order: &[u32]) -> Result<Items<u32>, AllocError>
     requires each { (term : ℕ) → term < length order.now → Contains order.now term }
     requires within { All (λ term. term < length order.now) order.now }
     requires distinct { AllPairs (λ x y. x ≢ y) order.now }
@@ -83,7 +118,7 @@ fn level_in(order: &[u32], term: u32) -> u32
 }
 
 /// For the terms in this order, the individual of each fixed one.
-pub(crate) fn fixed_by_level(
+fn fixed_by_level(
     alloc: Global,
     order: &[u32],
     fixed: &[Option<u32>],
@@ -99,19 +134,19 @@ pub(crate) fn fixed_by_level(
 }
 
 /// What the paths of the steps go through, by the levels of terms.
-pub(crate) fn atoms_by_level(
+fn atoms_by_level(
     alloc: Global,
     steps: &[Step],
     levels: &[u32],
-) -> Result<Items<ShapeAtom>, AllocError>
+) -> Result<Vec<Condition>, AllocError>
     requires { All (λ step. IsBelow (length levels.now) (atom_of step.path)) steps.now }
-    ensures { IfOk result (λ atoms. atoms ≡ map (λ step. leveled levels.now (atom_of step.path)) steps.now) }
+    ensures { IfOk result (λ atoms. atoms.items ≡ leveled_atoms levels.now steps.now) }
 {
     let mut atoms = Vec::with_capacity(alloc, steps.len())?;
     for step in steps {
-        atoms.push(atom_by_level(step.path, levels))?;
+        atoms.push(Condition::Atom(atom_by_level(step.path, levels)))?;
     }
-    Ok(Items::from_vec(atoms))
+    Ok(atoms)
 }
 
 /// What the path goes through, by the levels of terms.

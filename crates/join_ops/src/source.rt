@@ -1,113 +1,201 @@
-//! What gives the elements that a term may have.
-ghost use Rattle.std.specs.Prelude.{◌≡◌, ◌<◌, ℕ, IfOk, IfSome, MatchOption, Contains, length, map};
+//! From where a term gets its elements.
+ghost use Rattle.std.specs.Prelude.{◌≡◌, None, IfSome, MatchOption, Contains};
+ghost use Rattle.std.specs.Bool.{OnTrue};
 ghost use Rattle.query_shape.specs.Shape.{IsTermOf};
 ghost use Rattle.query_shape.specs.declared.layout.ShapeAtom.{ShapeAtom as AnyAtom};
-ghost use Rattle.join_ops.specs.Levels.{AreSources, IsSource, Serves, fixed_of};
+ghost use Rattle.join_ops.specs.declared.condition.Condition.TheVariants.{Atom as OfAtom};
+ghost use Rattle.join_ops.specs.declared.source.Source.TheVariants as sources;
+ghost use Rattle.join_ops.specs.Levels.{Gives, IsAlong, IsEdgeOf, IsSource, IsTwinAt, IsTwinBy, Serves, fixed_of};
 
+use crate::condition::{Condition, Twins};
 use dl_base::Role;
 use query_shape::ShapeAtom;
-use std::alloc::{AllocError, Global};
 
-/// What gives the elements that a term may have once the terms before it have theirs.
+/// From where a term gets its elements.
 #[derive(Clone, Copy, Debug)]
 pub(crate) enum Source {
-    /// The individual of this number alone.
+    /// The individual of this number.
     Named(u32),
-    /// The concept's members.
+    /// The members of this concept.
     Concept(u32),
-    /// Whatever the role leads from.
+    /// The elements from which the role leads.
     Outgoing(Role),
-    /// Whatever the role leads to from the element of an earlier term.
-    Edge { role: Role, from: u32 },
+    /// Where the edge leads.
+    Edge(Edge),
+    /// Where the edge leads; and where the twins share a witness, the parent's element alone.
+    Twin(Edge, Twins),
 }
 
-/// A source for each term: the individual where the term is fixed, else the first atom that leads to it from an earlier
-/// term, else the first that it is in.
-pub(crate) fn sources(
-    alloc: Global,
-    atoms: &[ShapeAtom],
-    fixed: &[Option<u32>],
-) -> Result<Vec<Source>, AllocError>
-    requires { (k : ℕ) → k < length fixed.now → (a : AnyAtom) × Contains atoms.now a × IsTermOf k a }
-    ensures fixed { IfOk result (λ sources. map fixed_of sources.items ≡ fixed.now) }
-    ensures each { IfOk result (λ sources. AreSources atoms.now sources.items) }
-{
-    let mut sources = Vec::with_capacity(alloc, fixed.len())?;
-    for (term, individual) in fixed.iter().enumerate() {
-        sources.push(source_of(atoms, term, *individual))?;
+/// The edges of a role from the element of a level.
+#[derive(Clone, Copy, Debug, PartialEq, Eq)]
+pub(crate) struct Edge {
+    pub(crate) role: Role,
+    pub(crate) from: u32,
+}
+
+impl Source {
+    /// Whether the condition holds with whatever is offered for the term of this level.
+    pub(crate) fn gives(self, condition: &Condition, level: usize) -> bool
+        ensures { OnTrue result (Gives self level condition.now) }
+    {
+        match *condition {
+            Condition::Atom(atom) => self.gives_atom(atom, level),
+            Condition::Twins(twins) => twins.twin as usize == level && self.is_twin(twins),
+        }
     }
-    Ok(sources)
+
+    /// Whether the atom holds with whatever is offered for the term of this level.
+    fn gives_atom(self, atom: ShapeAtom, level: usize) -> bool
+        ensures { OnTrue result (Gives self level (OfAtom atom)) }
+    {
+        match atom {
+            ShapeAtom::Concept { concept, term } => {
+                term as usize == level && self.is_concept(concept)
+            }
+            ShapeAtom::Role { role, from, to } => {
+                to as usize == level && self.is_along(Edge { role, from })
+                    || from as usize == level
+                        && self.is_along(Edge {
+                            role: role.inverted(),
+                            from: to,
+                        })
+            }
+        }
+    }
+
+    /// Whether it offers the members of that concept.
+    fn is_concept(self, concept: u32) -> bool
+        ensures { OnTrue result (self ≡ sources.Concept concept) }
+    {
+        match self {
+            Source::Concept(known) => known == concept,
+            _ => false,
+        }
+    }
+
+    /// Whether it offers nothing but where that edge leads.
+    fn is_along(self, edge: Edge) -> bool
+        ensures { OnTrue result (IsAlong edge self) }
+    {
+        match self {
+            Source::Edge(known) => known == edge,
+            Source::Twin(known, _) => known == edge,
+            _ => false,
+        }
+    }
+
+    /// Whether these are its twins.
+    fn is_twin(self, twins: Twins) -> bool
+        ensures { OnTrue result (IsTwinBy twins self) }
+    {
+        match self {
+            Source::Twin(_, known) => known == twins,
+            _ => false,
+        }
+    }
 }
 
-fn source_of(atoms: &[ShapeAtom], term: usize, fixed: Option<u32>) -> Source
-    requires { (a : AnyAtom) × Contains atoms.now a × IsTermOf term a }
+/// From where the term of this level gets its elements: its individual, where it is fixed, else the edge from an earlier term,
+/// if there is one.
+pub(crate) fn source_of(conditions: &[Condition], level: usize, fixed: Option<u32>) -> Source
+    requires { (a : AnyAtom) × Contains conditions.now (OfAtom a) × IsTermOf level a }
     ensures fixed { fixed_of result ≡ fixed }
-    ensures source { IsSource atoms.now term result }
+    ensures source { IsSource conditions.now level result }
 {
     if let Some(individual) = fixed {
         return Source::Named(individual);
     }
-    match edge_source(atoms, term) {
-        Some(source) => source,
-        None => any_source(atoms, term),
+    match edge_source(conditions, level) {
+        Some(edge) => edge_or_twin(conditions, level, edge),
+        None => any_source(conditions, level),
     }
 }
 
-/// What the first atom gives that leads to the term from an earlier one.
-fn edge_source(atoms: &[ShapeAtom], term: usize) -> Option<Source>
-    ensures { IfSome result (λ s. (a : AnyAtom) × Contains atoms.now a × Serves term s a) }
+/// The edge, with the first twins whose twin has this level and whose other terms come before.
+fn edge_or_twin(conditions: &[Condition], level: usize, edge: Edge) -> Source
+    requires { IsEdgeOf conditions.now level edge }
+    ensures fixed { fixed_of result ≡ None }
+    ensures source { IsSource conditions.now level result }
 {
-    for atom in atoms {
-        if let Some(source) = edge_offer(atom, term) {
-            return Some(source);
+    for condition in conditions {
+        if let Condition::Twins(twins) = *condition {
+            if is_twin_at(twins, level) {
+                return Source::Twin(edge, twins);
+            }
+        }
+    }
+    Source::Edge(edge)
+}
+
+/// Whether the twin has this level, and parent and child come before.
+fn is_twin_at(twins: Twins, level: usize) -> bool
+    ensures { OnTrue result (IsTwinAt level twins) }
+{
+    twins.twin as usize == level
+        && (twins.parent as usize) < level
+        && (twins.child as usize) < level
+}
+
+/// The edge of the first role atom that leads to the term from an earlier one.
+fn edge_source(conditions: &[Condition], level: usize) -> Option<Edge>
+    ensures { IfSome result (IsEdgeOf conditions.now level) }
+{
+    for condition in conditions {
+        if let Condition::Atom(atom) = *condition {
+            if let Some(edge) = edge_of(atom, level) {
+                return Some(edge);
+            }
         }
     }
     None
 }
 
-/// What the first atom gives that the term is in.
-fn any_source(atoms: &[ShapeAtom], term: usize) -> Source
-    requires { (a : AnyAtom) × Contains atoms.now a × IsTermOf term a }
-    ensures { (a : AnyAtom) × Contains atoms.now a × Serves term result a }
+/// The edge of a role atom that leads to the term from an earlier one.
+fn edge_of(atom: ShapeAtom, level: usize) -> Option<Edge>
+    ensures { IfSome result (λ edge. Serves level (sources.Edge edge) atom) }
 {
-    for atom in atoms {
-        if let Some(source) = offer(atom, term) {
-            return source;
+    let ShapeAtom::Role { role, from, to } = atom else {
+        return None;
+    };
+    if to as usize == level && (from as usize) < level {
+        return Some(Edge { role, from });
+    }
+    if from as usize == level && (to as usize) < level {
+        return Some(Edge {
+            role: role.inverted(),
+            from: to,
+        });
+    }
+    None
+}
+
+/// What the first atom with this term offers.
+fn any_source(conditions: &[Condition], level: usize) -> Source
+    requires { (a : AnyAtom) × Contains conditions.now (OfAtom a) × IsTermOf level a }
+    ensures { (a : AnyAtom) × Contains conditions.now (OfAtom a) × Serves level result a }
+{
+    for condition in conditions {
+        if let Condition::Atom(atom) = *condition {
+            if let Some(source) = offer(atom, level) {
+                return source;
+            }
         }
     }
     unreachable!()
 }
 
-/// The edge by which the atom leads to the term from an earlier one.
-fn edge_offer(atom: &ShapeAtom, term: usize) -> Option<Source>
-    ensures { IfSome result (λ s. Serves term s atom.now) }
+/// What the atom offers for the term, if it has it.
+fn offer(atom: ShapeAtom, level: usize) -> Option<Source>
+    ensures { MatchOption result (IsTermOf level atom → ⊥) (λ s. Serves level s atom) }
 {
-    let ShapeAtom::Role { role, from, to } = *atom else {
-        return None;
-    };
-    if to as usize == term && (from as usize) < term {
-        return Some(Source::Edge { role, from });
-    }
-    if from as usize == term && (to as usize) < term {
-        let role = role.inverted();
-        return Some(Source::Edge { role, from: to });
-    }
-    None
-}
-
-/// What the atom gives for a term that it has.
-fn offer(atom: &ShapeAtom, term: usize) -> Option<Source>
-    ensures { MatchOption result (IsTermOf term atom.now → ⊥) (λ s. Serves term s atom.now) }
-{
-    match *atom {
-        ShapeAtom::Concept {
-            concept,
-            term: member,
-        } if member as usize == term => { Some(Source::Concept(concept)) }
-        ShapeAtom::Role { role, from, .. } if from as usize == term => {
+    match atom {
+        ShapeAtom::Concept { concept, term } if term as usize == level => {
+            Some(Source::Concept(concept))
+        }
+        ShapeAtom::Role { role, from, .. } if from as usize == level => {
             Some(Source::Outgoing(role))
         }
-        ShapeAtom::Role { role, to, .. } if to as usize == term => {
+        ShapeAtom::Role { role, to, .. } if to as usize == level => {
             Some(Source::Outgoing(role.inverted()))
         }
         _ => None,

@@ -3,13 +3,14 @@ ghost use Rattle.std.specs.Prelude.{◌≡◌, length};
 
 use crate::Matches;
 use cq_reader::read_query;
-use dl_base::{Axiom, Elem, Items, Name, Names, Ontology};
+use dl_base::{Axiom, Elem, Items, Name, Names, Ontology, Role, Witness};
 use join_plan::plan;
 use listed_tables::{ListedRow, ListedTables};
 use query_shape::{Shape, shape};
 use std::alloc::{AllocError, Global};
 use std::process::Abort;
 use std::test::Fail;
+use tree_witness::TreeWitnesses;
 
 /// A(1), A(2), A(4), B(3), r(1,1), r(1,2), r(2,3), r(3,1), r(4,4), s(2,5), s(2,6).
 const CONCEPTS: [(u32, u32); 4] = [(0, 1), (0, 2), (0, 4), (1, 3)];
@@ -130,6 +131,67 @@ fn number(e: &Elem) -> u32 {
     }
 }
 
+/// Of the first role, which is not inverted.
+const WITNESS: Elem = Elem::Shared(Witness {
+    role: Role {
+        name: 0,
+        inverse: false,
+    },
+    generation: 1,
+});
+
+/// A query, and how many matches a search gives that knows the trees, where twelve individuals share a witness of the first
+/// role.
+const BY_TREES: [(&[u8], &[Option<u32>], usize); 6] = [
+    (b"q() :- r(?x, ?z), r(?y, ?z)", &[None, None, None], 12),
+    (b"q() :- r(?y, ?z), r(?x, ?z)", &[None, None, None], 12),
+    (
+        b"q() :- r(?x, ?z), r(?y, ?z), r(?v, ?z), r(?w, ?z)",
+        &[None, None, None, None, None],
+        12,
+    ),
+    (b"q() :- r(c, ?z), r(?y, ?z)", &[Some(3), None, None], 1),
+    (b"q() :- r(c, ?z), r(d, ?z)", &[Some(3), Some(4), None], 0),
+    (
+        b"q() :- r(?x, ?z), r(?y, ?v)",
+        &[None, None, None, None],
+        144,
+    ),
+];
+
+/// Tables in which the first role leads from twelve individuals to its witness.
+fn sharing_tables(alloc: Global) -> Result<ListedTables, AllocError> {
+    let mut rows = Vec::new(alloc);
+    for individual in 0..12 {
+        rows.push(ListedRow::Role {
+            role: 0,
+            from: Elem::Named(individual),
+            to: WITNESS,
+        })?;
+    }
+    Ok(ListedTables::new(rows))
+}
+
+/// How many matches the search gives that knows the trees of the shape; at most 200.
+fn count_by_trees(
+    alloc: Global,
+    t: &ListedTables,
+    s: &Shape,
+    fixed: &[Option<u32>],
+) -> Result<usize, AllocError>
+    requires { length fixed.now ≡ length s.now.terms }
+{
+    let p = plan(alloc, s, &[], t)?;
+    let trees = TreeWitnesses::build(alloc, s)?;
+    let mut matches = Matches::with_trees(alloc, s, &p, fixed, &trees)?;
+    for count in 0..200 {
+        if !matches.advance(t) {
+            return Ok(count);
+        }
+    }
+    Ok(200)
+}
+
 /// The images of up to 20 matches in rising order, one match behind another. Where `skip` is given, those that agree with
 /// a match on so many first levels are skipped.
 fn found(
@@ -207,6 +269,18 @@ fn skips_what_agrees(rt: HostRuntime) -> Result<(), Fail> {
     for (text, fixed, terms, wanted) in SKIPS {
         let s = shape_of(rt.alloc(), &o, text)?;
         assert_found(&rt, rt.alloc(), &t, &s, fixed, Some(terms), wanted)?;
+    }
+    Ok(())
+}
+
+#[test]
+fn gives_one_match_for_each_that_shares(rt: HostRuntime) -> Result<(), Fail> {
+    let t = sharing_tables(rt.alloc())?;
+    let o = ontology(rt.alloc())?;
+    for (text, fixed, wanted) in BY_TREES {
+        let s = shape_of(rt.alloc(), &o, text)?;
+        assert!(&rt; fixed.len() == s.terms());
+        assert_eq!(&rt; count_by_trees(rt.alloc(), &t, &s, fixed)?, wanted);
     }
     Ok(())
 }

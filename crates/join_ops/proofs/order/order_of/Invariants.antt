@@ -1,5 +1,6 @@
 use Rattle.std.proofs.Common.{take}
-use Rattle.join_ops.specs.Orders.{AreFirsts, plan_terms}
+use Rattle.query_shape.specs.Shape.{AreFirsts}
+use Rattle.join_ops.specs.Orders.{plan_terms}
 use Rattle.join_ops.proofs.order.order_of.Given as goal
 
 abbrev pub invariant-loop-step : goal.invariant-loop-step

@@ -5,5 +5,5 @@ use Rattle.join_ops.proofs.search.search_past.Goals as goal
 pub returns : goal.returns
 returns g c = λ found.
     let shared = least_shared c.args.terms _ c.min-shared.result c.min-shared.ensures c.if-shared-eq0.false in
-    c.search.ensures (Past c.args.terms c.args.images.now)
-    (past_step (g.T.Tables.rows c.args.t.now) c.args.atoms.now c.args.sources.now c.args.images.now _ c.args.terms _ c.requires found shared.0 shared.1)
+    c.search.ensures (Past c.args.terms c.args.elements.now)
+    (past_step (g.T.Tables.rows c.args.t.now) c.args.conditions.now c.args.levels.now c.args.elements.now _ c.args.terms _ c.requires.search found shared.0 shared.1)
