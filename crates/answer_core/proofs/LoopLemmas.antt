@@ -9,13 +9,32 @@ use Rattle.dl_base.specs.declared.row.NamedRow.{NamedRow}
 use Rattle.dl_base.proofs.RisingLemmas.{contains_cases, contains_first, contains_later}
 use Rattle.query_shape.specs.Shape.{IsShapeMatch, IsLayout}
 use Rattle.query_shape.specs.Lifting.{LiftsShape}
-use Rattle.join_ops.specs.Joins.{SearchPlace, Behind, Past, IsFound, IsLast}
-use Rattle.join_ops.specs.Matching.{PlannedSearch, HasLeft, AreMatches, IsNextOf, SkipsAgreeing}
+use Rattle.tree_witness.specs.Trees.{Trees, AreTreesOf}
+use Rattle.tree_witness.proofs.LawLemmas.{lifting}
+use Rattle.tree_witness.proofs.PassLemmas.{passes_by_trees}
+use Rattle.join_ops.specs.Joins.{SearchPlace, Behind, Past, IsFixed, IsFound, IsLast}
+use Rattle.join_ops.specs.Matching.{PlannedSearch, HasLeft, ArePassing, IsNextOf, SkipsAgreeing}
 use Rattle.join_ops.specs.Orders.{AgreeUpTo, images_of}
 use Rattle.answer_core.specs.Binding.{BoundQuery}
 use Rattle.answer_core.specs.Found.{AllStand, IsFoundKey, IsTableOf, AddsLifted, AreWithin, HasKeyOf}
 use Rattle.answer_core.proofs.RankLemmas.{rank, tuples, elements, rank_falls, rank_past, elements_in}
 use Rattle.answer_core.proofs.ReadLemmas.{reads_along}
+
+-- matches that place the fixed terms so, and among them all that lift
+pub record HaveLifted (table : List TableRow) (b : BoundQuery) (fixed : List (Option ℕ)) (all : List (List Elem)) : Type 0 where
+  pub only : (images : List Elem) → Contains all images → IsShapeMatch table b.shape images × IsFixed fixed images
+  pub lifted : (o : Terminology) (rows : List NamedRow) (names : List (List ℕ)) (generation : Role → ℕ) → IsTableOf o rows names generation table
+      → (images : List Elem) → IsShapeMatch table b.shape images → IsFixed fixed images → LiftsShape o rows names generation b.shape images → Contains all images
+
+-- what lifts passes by the tree witnesses
+have_lifted : (table : List TableRow) (b : BoundQuery) (fixed : List (Option ℕ)) (trees : Trees) (all : List (List Elem)) → IsLayout b.shape → AreTreesOf b.shape trees
+    → ArePassing table b.shape trees fixed all → HaveLifted table b fixed all
+have_lifted table b fixed trees all layout trees_are are = record {
+  only = are.only;
+  lifted = λ o rows names generation base images match fixed_are lifts.
+      are.all images match fixed_are
+      ((passes_by_trees b.shape trees images trees_are).1 ((lifting o rows names generation table b.shape images base.distinct base.completed layout match).1 lifts));
+}
 
 -- one of these matches lifts and has these individuals at the answer places
 abbrev pub IsLiftedRead : Terminology → List NamedRow → List (List ℕ) → (Role → ℕ) → BoundQuery → ℕ → List (List Elem) → List ℕ → Type 0
@@ -30,7 +49,7 @@ IsKeyFound table b count found images = (o : Terminology) (rows : List NamedRow)
 pub record FoundSoFar (table : List TableRow) (b : BoundQuery) (fixed : List (Option ℕ)) (count : ℕ) (search : PlannedSearch) (found : List (List ℕ)) : Type 0 where
   pub all : List (List Elem)
   pub left : List (List Elem)
-  pub are : AreMatches table b.shape fixed all
+  pub are : HaveLifted table b fixed all
   pub among : (images : List Elem) → Contains left images → Contains all images
   pub goes_on : HasLeft table search left
   pub within : AreWithin count found
@@ -39,12 +58,12 @@ pub record FoundSoFar (table : List TableRow) (b : BoundQuery) (fixed : List (Op
   pub each : (images : List Elem) → Contains all images → Contains left images ⊎ IsKeyFound table b count found images
 
 module _ (table : List TableRow) (b : BoundQuery) (fixed : List (Option ℕ)) (count : ℕ) where
-  pub found_none : (search : PlannedSearch) (found : List (List ℕ)) → found ≡ [] → (left : List (List Elem)) × HasLeft table search left × AreMatches table b.shape fixed left
-      → FoundSoFar table b fixed count search found
-  found_none search found none (left, goes_on, are) = record {
+  pub found_none : (trees : Trees) (search : PlannedSearch) (found : List (List ℕ)) → IsLayout b.shape → AreTreesOf b.shape trees → found ≡ []
+      → (left : List (List Elem)) × HasLeft table search left × ArePassing table b.shape trees fixed left → FoundSoFar table b fixed count search found
+  found_none trees search found layout trees_are none (left, goes_on, are) = record {
     all = left;
     left = left;
-    are = are;
+    are = have_lifted table b fixed trees left layout trees_are are;
     among = λ images c. c;
     goes_on = goes_on;
     within = subst (AreWithin count) (sym none) (All-nil (All (λ n. n < count)));
@@ -65,10 +84,10 @@ module _ (table : List TableRow) (b : BoundQuery) (fixed : List (Option ℕ)) (c
 
     -- the next match is a match
     pub next_match : IsShapeMatch table b.shape next_images
-    next_match = ((so_far.are.each next_images).0 (so_far.among next_images next_left)).0
+    next_match = (so_far.are.only next_images (so_far.among next_images next_left)).0
 
-    next_found : IsFound table new.search.atoms new.search.fixed next.elements
-    next_found = subst (IsLast table new.search.atoms new.search.fixed) next.stands next.goes_on.goes_on.last
+    next_found : IsFound table new.search.conditions new.search.fixed next.elements
+    next_found = subst (IsLast table new.search.conditions new.search.fixed) next.stands next.goes_on.goes_on.last
 
     next_in : IsLayout b.shape → Contains (tuples (elements table) b.shape.terms) next.elements
     next_in layout = elements_in table b.shape new.levels next.elements layout next_match (next_found.count ∙ sym next.goes_on.count) (λ level below. next.goes_on.covers level (subst (λ (n : ℕ). level < n) next.goes_on.count below))
@@ -147,10 +166,10 @@ module _ (table : List TableRow) (b : BoundQuery) (fixed : List (Option ℕ)) (c
     found_all o rows names generation base numbers = (
       λ c. (
           let f = so_far.only o rows names generation base numbers c in
-          let is = (so_far.are.each f.0).0 f.1 in
+          let is = so_far.are.only f.0 f.1 in
           record { images = f.0; match_is = is.0; lifts = f.2; fixed_are = is.1; reads = f.3 }
           ),
-      λ k. elim (so_far.each k.images ((so_far.are.each k.images).1 (k.match_is, k.fixed_are))) [
+      λ k. elim (so_far.each k.images (so_far.are.lifted o rows names generation base k.images k.match_is k.fixed_are k.lifts)) [
         | inl c ↦ absurd (let d : Contains [] k.images = subst (λ (ms : List (List Elem)). Contains ms k.images) none c in omega (arith, d.1))
         | inr there ↦ there o rows names generation base k.lifts numbers k.reads
       ],

@@ -62,7 +62,7 @@ fn found_keys<T: Tables>(
     let places = b.answers.items();
     let mut key = vec![in alloc; 0u32; places.len()]?;
     let mut found = NumberKeys::new(alloc);
-    let mut matches = Matches::new(alloc, &b.shape, &b.plan, fixed)?;
+    let mut matches = Matches::with_trees(alloc, &b.shape, &b.plan, fixed, &b.trees)?;
     let levels = levels_up_to(places, matches.levels());
     'matches: while matches.advance(t) {
         let settled = add_key(

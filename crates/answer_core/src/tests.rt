@@ -78,6 +78,11 @@ const CYCLES: &[u8] = b"raa.rab.rbc.rca.Aa.Ac.";
 
 const BY_CYCLE: &[u8] = b"a,a,;a,c,;c,b,;";
 
+/// How many individuals share a witness.
+const CROWD: u32 = 500;
+
+const SHARED: &[u8] = b"q(?x, ?y) :- r(?x, ?z), r(?y, ?z)";
+
 /// The orders of four atoms.
 const ORDERS: [[usize; 4]; 24] = [
     [0, 1, 2, 3],
@@ -141,7 +146,7 @@ fn ontology(alloc: Global) -> Result<Ontology, Fail> {
 }
 
 fn add_name(alloc: Global, book: &mut NameBook, name: &[u8]) -> Result<(), Fail> {
-    if book.len() < 100 {
+    if book.len() < CROWD as usize {
         book.intern(&Name::new(alloc, name)?)?;
     }
     Ok(())
@@ -295,5 +300,48 @@ fn every_order_of_atoms_has_the_same_answers(rt: HostRuntime) -> Result<(), Fail
         let text = cycle_in(rt.alloc(), order)?;
         assert_answers(rt.alloc(), &rt, &t, &[(text.as_slice(), BY_CYCLE)])?;
     }
+    Ok(())
+}
+
+/// The individuals of the crowd.
+fn crowd(alloc: Global) -> Result<NameBook, Fail> {
+    let mut book = NameBook::new(alloc);
+    for number in 0..CROWD {
+        let name = format!(in alloc; "i{number}")?;
+        add_name(alloc, &mut book, name.as_bytes())?;
+    }
+    Ok(book)
+}
+
+/// Tables in which r leads from each of the crowd to its witness.
+fn sharing(alloc: Global) -> Result<ListedTables, AllocError> {
+    let mut rows = Vec::new(alloc);
+    for number in 0..CROWD {
+        rows.push(ListedRow::Role {
+            role: 0,
+            from: Elem::Named(number),
+            to: element(b'R'),
+        })?;
+    }
+    Ok(ListedTables::new(rows))
+}
+
+/// Whether the key is one name twice.
+fn is_double(key: &Key) -> bool {
+    match key.items() {
+        [first, second] => first == second,
+        _ => false,
+    }
+}
+
+#[test]
+fn a_crowd_that_shares_a_witness_joins_with_itself_alone(rt: HostRuntime) -> Result<(), Fail> {
+    let t = sharing(rt.alloc())?;
+    let book = crowd(rt.alloc())?;
+    let q = read_query(rt.alloc(), SHARED)?;
+    let b = bind(rt.alloc(), &q, &ontology(rt.alloc())?, &t)?;
+    let keys = answers(rt.alloc(), &t, &book, &b)?;
+    assert_eq!(rt; keys.items().len(), CROWD as usize);
+    assert!(rt; keys.items().iter().all(is_double));
     Ok(())
 }

@@ -4,7 +4,7 @@ use Rattle.dl_base.specs.declared.element.Elem.{Elem}
 use Rattle.query_shape.specs.Shape.{Layout}
 use Rattle.join_plan.specs.declared.steps.Step.{Step}
 use Rattle.tree_witness.specs.Trees.{Trees}
-use Rattle.join_ops.specs.Matching.{AreMatches, HasLeft, IsNextOf, SkipsAgreeing}
+use Rattle.join_ops.specs.Matching.{ArePassing, HasLeft, IsNextOf, SkipsAgreeing}
 use Rattle.join_ops.specs.Orders.{images_of}
 use Rattle.answer_core.specs.Binding.{BoundQuery, IsPlanned}
 use Rattle.answer_core.specs.Found.{AddsLifted, HasKeyOf}
@@ -15,22 +15,26 @@ use Rattle.answer_core.proofs.answer_list.found_keys.Goals as goal
 whole : (shape : Layout) (answers : List ℕ) (plan : List Step) (trees : Trees) (b : BoundQuery) → record { shape = shape; answers = answers } ≡ b → IsPlanned (record { shape = shape; answers = answers }) plan trees → IsPlanned b plan trees
 whole shape answers plan trees b same is = subst (λ (x : BoundQuery). IsPlanned x plan trees) same is
 
-pub new-requires-clause-plan : goal.new-requires-clause-plan
-new-requires-clause-plan g c = c.b.invariant.plan
+pub with_trees-requires-clause-plan : goal.with_trees-requires-clause-plan
+with_trees-requires-clause-plan g c = c.b.invariant.plan
 
-pub new-requires-clause-fixed : goal.new-requires-clause-fixed
-new-requires-clause-fixed g c = c.requires ∙ sym (ap (λ (b : BoundQuery). length b.shape.terms) c.b.view_is)
+pub with_trees-requires-clause-trees : goal.with_trees-requires-clause-trees
+with_trees-requires-clause-trees g c = c.b.invariant.trees_are.terms
+
+pub with_trees-requires-clause-fixed : goal.with_trees-requires-clause-fixed
+with_trees-requires-clause-fixed g c = c.requires ∙ sym (ap (λ (b : BoundQuery). length b.shape.terms) c.b.view_is)
 
 pub matches-init : goal.matches-init
 matches-init g c =
     let places : c.items-places.result.now ≡ c.args.b.now.answers = c.items-places.ensures ∙ ap (λ (b : BoundQuery). b.answers) c.b.view_is in
+    let is = (whole c.b.inside.shape c.b.inside.answers c.b.inside.plan c.b.inside.trees c.args.b.now c.b.view_is c.b.invariant) in
     record {
       places = places;
       room = c.in_ok-key.ensures.len ∙ ap length places;
       count = c.in_ok-matches.ensures.count ∙ ap (λ (b : BoundQuery). length b.shape.terms) c.b.view_is;
       first = rw (c.levels.ensures, places) at c.levels_up_to-levels.ensures;
-      so_far = found_none (g.T.Tables.rows c.args.t.now) c.args.b.now c.args.fixed.now c.args.count c.in_ok-matches.matches c.new-found.result c.new-found.ensures
-          (subst (λ (b : BoundQuery). (left : List (List Elem)) × HasLeft (g.T.Tables.rows c.args.t.now) c.in_ok-matches.matches left × AreMatches (g.T.Tables.rows c.args.t.now) b.shape c.args.fixed.now left) c.b.view_is (c.in_ok-matches.ensures.left (g.T.Tables.rows c.args.t.now)));
+      so_far = found_none (g.T.Tables.rows c.args.t.now) c.args.b.now c.args.fixed.now c.args.count c.b.inside.trees c.in_ok-matches.matches c.new-found.result is.bound.layout is.trees_are c.new-found.ensures
+          (subst (λ (b : BoundQuery). (left : List (List Elem)) × HasLeft (g.T.Tables.rows c.args.t.now) c.in_ok-matches.matches left × ArePassing (g.T.Tables.rows c.args.t.now) b.shape c.b.inside.trees c.args.fixed.now left) c.b.view_is (c.in_ok-matches.ensures.left (g.T.Tables.rows c.args.t.now)));
     }
 
 pub add_key-requires-clause-places : goal.add_key-requires-clause-places
