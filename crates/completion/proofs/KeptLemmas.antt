@@ -1,9 +1,10 @@
 -- What the kept lists say of rows.
-use Rattle.std.proofs.Common.{◌≡◌, ℕ, zero, suc, ◌+◌, ◌⊎◌, ◌↔◌, inl, inr, Bool, true, false, List, [], ◌∷◌, ◌++◌, map, Contains, refl, sym, ◌∙◌, ap, subst, arith}
+use Rattle.std.proofs.Common.{◌≡◌, ◌≢◌, ℕ, zero, suc, ◌+◌, ◌⊎◌, ◌↔◌, inl, inr, Bool, true, false, List, [], ◌∷◌, ◌++◌, map, Contains, refl, sym, ◌∙◌, ap, subst, arith}
 use Rattle.std.specs.Prelude.{slice_index_or}
 use Rattle.std.proofs.lemmas.List.Elements.{Contains-append_left, Contains-append_right, Contains-append_cases}
 use Rattle.dl_base.specs.Derivation.{inverse}
-use Rattle.dl_base.specs.Tables.{TableRow, ConceptRow, RoleRow, edge_row}
+use Rattle.std.specs.declared.cmp.Ordering.TheVariants.{Greater}
+use Rattle.dl_base.specs.Tables.{TableRow, ConceptRow, RoleRow, edge_row, elem_cmp}
 use Rattle.dl_base.specs.declared.concept.Role.{Role}
 use Rattle.dl_base.specs.declared.element.Elem.{Elem}
 use Rattle.dl_base.specs.declared.element.Elem.TheVariants as elem
@@ -111,6 +112,12 @@ witness_from p (x ∷ rest) row there = elim (Contains-append_cases (pointing_ro
 -- by a row among individuals, or one of them points to the other
 abbrev pub IsKeptEdge : KeptRows → Role → Elem → Elem → Type 0
 IsKeptEdge k r e f = IsRowFrom k r e f ⊎ (PointsHere k r e f ⊎ PointsHere k (inverse r) f e)
+
+-- an individual that a row gives isn't above what points by the role
+pub row_first : (k : KeptRows) (r : Role) (e f : Elem) → IsRowFrom k r e f → (g : Elem) → PointsHere k r e g ⊎ PointsHere k (inverse r) g e → elem_cmp f g ≢ Greater
+row_first k r (elem.Named n) f row g (inl forth) = subst (λ (x : Elem). elem_cmp x g ≢ Greater) (sym row.1) (subst (λ (x : Elem). elem_cmp (elem.Named row.0) x ≢ Greater) (sym forth.1) (λ e. absurd cc))
+row_first k r (elem.Named n) f row g (inr back) = absurd (let e = back.1 in cc)
+row_first k r (elem.Shared w) f row g either = absurd row
 
 concept_apart : (c p : ℕ) (e f g : Elem) → RoleRow p f g ≡ ConceptRow c e → ⊥
 concept_apart c p e f g same = cc

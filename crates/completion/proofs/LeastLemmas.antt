@@ -46,6 +46,14 @@ module _ (P Q : Elem → Type 0) (after : Option Elem) where
     | inr at ↦ second x e p (subst (IsLeastAbove Q after) at q) low
   ]
 
+  -- and of one alone where the other kind isn't below, or there is none
+  pub least_of_first : (x : Elem) → IsLeastAbove P after (Some x) → ((g : Elem) → Q g → elem_cmp x g ≢ Greater) → IsLeastAbove (λ y. P y ⊎ Q y) after (Some x)
+  least_of_first x least other = (inl least.0, least.1, λ g either above. elim either [ inl p ↦ least.2 g p above | inr q ↦ other g q ])
+
+  pub least_of_second : (r : Option Elem) → IsLeastAbove P after None → IsLeastAbove Q after r → IsLeastAbove (λ y. P y ⊎ Q y) after r
+  least_of_second None none least = λ g either above. elim either [ inl p ↦ none g p above | inr q ↦ least g q above ]
+  least_of_second (Some x) none least = (inr least.0, least.1, λ g either above. elim either [ inl p ↦ absurd (none g p above) | inr q ↦ least.2 g q above ])
+
 -- there are none of what there is none of
 pub counted_none : (P : Elem → Type 0) → ((e : Elem) → P e → ⊥) → AreCounted P 0
 counted_none P none = record {

@@ -1,5 +1,5 @@
 -- What searches of sorted lists find.
-use Rattle.std.proofs.Common.{◌≡◌, ◌≢◌, ℕ, ◌+◌, ◌<◌, ◌≤◌, ◌⊎◌, ◌↔◌, inl, inr, Bool, true, false, not, ◌&&◌, ◌||◌, List, length, get_or, Contains, Option, Some, None, Result, Ok, Err, is_ok, refl, sym, ◌∙◌, ap, subst, arith}
+use Rattle.std.proofs.Common.{◌≡◌, ◌≢◌, ℕ, ◌+◌, ◌-◌, ◌<◌, ◌≤◌, ◌⊎◌, ◌↔◌, inl, inr, Bool, true, false, not, ◌&&◌, ◌||◌, List, length, get_or, Contains, Option, Some, None, Result, Ok, Err, is_ok, refl, sym, ◌∙◌, ap, subst, arith}
 use Rattle.std.specs.Cmp.{IsTotalOrder}
 use Rattle.std.specs.declared.cmp.Ordering.{Ordering}
 use Rattle.std.specs.declared.cmp.Ordering.TheVariants.{Less, Equal, Greater}
@@ -20,6 +20,7 @@ use Rattle.dl_base.specs.declared.element.Elem.{Elem}
 use Rattle.dl_base.specs.declared.element.Elem.TheVariants as elem
 use Rattle.completion.specs.EdgeLists.{edge_cmp, is_above, target_passed}
 use Rattle.completion.specs.Members.{IsFirstPast}
+use Rattle.completion.specs.Search.{IsAtPoint, PartsAt}
 use Rattle.completion.specs.declared.edges.Edge.{Edge}
 use Rattle.completion.proofs.OrderLemmas.{edge_less}
 
@@ -48,7 +49,7 @@ module _ {X : Type 0} (cmp : X → X → Ordering) (total : IsTotalOrder cmp) (x
       least : (k : ℕ) → (k < i) ⊎ (i ≤ k)
       least k = grind arith
 
-  pub first_past : (passed : X → Bool) (i : ℕ) (r : Option X) → r ≡ slice_get xs i → IsPartitionPoint (λ y. passed y ≡ true) (λ y. passed y ≡ false) xs i
+  first_past : (passed : X → Bool) (i : ℕ) (r : Option X) → r ≡ slice_get xs i → IsPartitionPoint (λ y. passed y ≡ true) (λ y. passed y ≡ false) xs i
       → IsFirstPast cmp passed xs r
   first_past passed i r is point = elim (slice_get_cases xs i).1 [
     | inl found ↦ subst (IsFirstPast cmp passed xs) (sym (is ∙ found.2)) (
@@ -72,6 +73,9 @@ module _ {X : Type 0} (cmp : X → X → Ordering) (total : IsTotalOrder cmp) (x
             cc
       ]
 
+  pub first_at : (passed : X → Bool) (r : Option X) → IsAtPoint passed xs r → IsFirstPast cmp passed xs r
+  first_at passed r there = first_past passed there.0 r there.2 there.1
+
   -- what binary_search answers
   pub found : ((x y : X) → cmp x y ≡ Equal → x ≡ y) → (x : X) (r : Result ℕ ℕ) → IsSearchInRange r (length xs) → IsBinarySearchResult (λ y. cmp y x) xs r → (is_ok r ≡ true) ↔ Contains xs x
   found same x (Ok i) bound at = (λ yes. (i, bound, same _ _ (at x)), λ c. refl)
@@ -88,6 +92,29 @@ module _ {X : Type 0} (cmp : X → X → Ordering) (total : IsTotalOrder cmp) (x
         where
           side : (k : ℕ) → (k < i) ⊎ (i ≤ k)
           side k = grind arith
+
+-- where the item in front of a place passes and the one at it doesn't, the place is where the test parts the list
+module _ {X : Type 0} (passed : X → Bool) (xs : List X) (parts : IsPartitionedBy passed xs) (i : ℕ) where
+  pub point_here : i ≤ length xs → (i ≡ 0) ⊎ ((x : X) × (get_or xs (i - 1) x ≡ x) × (passed x ≡ true)) → (i ≡ length xs) ⊎ ((x : X) × (get_or xs i x ≡ x) × (passed x ≡ false))
+      → PartsAt passed xs i
+  point_here within before behind = (λ k d from below. in_front k d below before, λ k d from below. at_or_behind k d from below behind)
+    where
+      in_front : (k : ℕ) (d : X) → k < i → (i ≡ 0) ⊎ ((x : X) × (get_or xs (i - 1) x ≡ x) × (passed x ≡ true)) → passed (get_or xs k d) ≡ true
+      in_front k d below (inl none) = absurd (omega (arith, none))
+      in_front k d below (inr there) =
+          let is : get_or xs (i - 1) d ≡ there.0 = get_or_default xs (i - 1) d there.0 (omega arith) ∙ there.1 in
+          parts k (i - 1) d (omega arith) (omega arith) (subst (λ (z : X). passed z ≡ true) (sym is) there.2)
+
+      at_or_behind : (k : ℕ) (d : X) → i ≤ k → k < length xs → (i ≡ length xs) ⊎ ((x : X) × (get_or xs i x ≡ x) × (passed x ≡ false)) → passed (get_or xs k d) ≡ false
+      at_or_behind k d from below (inl end) = absurd (omega (arith, end))
+      at_or_behind k d from below (inr there) = by (passed (get_or xs k d)) refl
+        where
+          by : (b : Bool) → passed (get_or xs k d) ≡ b → passed (get_or xs k d) ≡ false
+          by false off = off
+          by true on =
+              let is : get_or xs i d ≡ there.0 = get_or_default xs i d there.0 (omega arith) ∙ there.1 in
+              let here : passed there.0 ≡ true = subst (λ (z : X). passed z ≡ true) is (parts i k d from below on) in
+              absurd (let no = there.2 in cc)
 
 -- what get answers
 pub item_read : {X : Type 0} (xs : List X) (i : ℕ) (r : Option (Bor X)) → MatchOption r (length xs ≤ i) (λ b. (i < length xs) × HoldsAt (λ y. b.now ≡ y) xs i) → option_copied r ≡ slice_get xs i

@@ -10,3 +10,4 @@ pub mod TableRows
 pub mod Gathered
 pub mod Numbers
 pub mod Least
+pub mod Search

@@ -7,7 +7,8 @@ ghost use Rattle.completion.specs.declared.edges.Edge.{Edge as AnyEdge};
 ghost use Rattle.dl_base.specs.Tables.{IsLeastAbove};
 
 use crate::order::in_order;
-use dl_base::{Elem, Role};
+use crate::search::first_near;
+use dl_base::{Elem, Hint, Role};
 use std::alloc::{AllocError, Global};
 use std::marker::Model;
 
@@ -68,15 +69,24 @@ impl Edges {
         }
     }
 
-    /// The least individual above `after`, or of all, to which a row of the role leads from this one.
-    pub(crate) fn next(&self, role: Role, from: u32, after: Option<Elem>) -> Option<Elem>
+    /// The least individual above `after`, or of all, to which a row of the role leads from this one, with a look at the hint
+    /// first.
+    pub(crate) fn next_near(
+        &self,
+        role: Role,
+        from: u32,
+        after: Option<Elem>,
+        hint: &mut Hint,
+    ) -> Option<Elem>
         ensures { IsLeastAbove (IsTarget self.now role from) after result }
     {
-        match first_target(self.read(role.inverse), role.name, from, after) {
+        match first_target(self.read(role.inverse), role.name, from, after, hint) {
             Some(edge) => {
                 if edge.role == role.name && edge.from == from {
                     Some(Elem::Named(edge.to))
                 } else {
+                    // The row is the first one behind those of the role from here, so the next search may begin at it.
+                    hint.place = hint.place.saturating_sub(1);
                     None
                 }
             }
@@ -110,12 +120,17 @@ fn has_edge(edges: &[Edge], edge: Edge) -> bool
 }
 
 /// The first row of this role name that leads from this individual to one above `after`, or what comes behind these.
-fn first_target(edges: &[Edge], role: u32, from: u32, after: Option<Elem>) -> Option<Edge>
+fn first_target(
+    edges: &[Edge],
+    role: u32,
+    from: u32,
+    after: Option<Elem>,
+    hint: &mut Hint,
+) -> Option<Edge>
     requires { IsStrictlySortedBy edge_cmp edges.now }
     ensures { IsFirstPast edge_cmp (target_passed role from after) edges.now result }
 {
-    let at = edges.partition_point(|e| is_target_passed(e, role, from, after));
-    edges.get(at).copied()
+    first_near(edges, hint, |e| is_target_passed(e, role, from, after))
 }
 
 fn is_target_passed(e: &Edge, role: u32, from: u32, after: Option<Elem>) -> bool

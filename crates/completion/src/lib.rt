@@ -14,6 +14,7 @@ mod order;
 mod points;
 mod properties;
 mod rows;
+mod search;
 mod tables;
 #[cfg(test)]
 mod tests;

@@ -5,7 +5,8 @@ ghost use Rattle.completion.specs.Members.{AreMembers, IsFirstPast, is_number_pa
 ghost use Rattle.dl_base.specs.Tables.{AreCounted, IsLeastAbove, witness_cmp};
 ghost use Rattle.std.specs.List.Sorted.{IsStrictlySortedBy};
 
-use dl_base::{Elem, Witness};
+use crate::search::first_near;
+use dl_base::{Elem, Hint, Witness};
 use std::marker::Model;
 
 /// Elements, each once: individuals by their numbers, then witnesses. Contracts see it as the rising list of them.
@@ -49,16 +50,25 @@ impl Members {
         }
     }
 
-    /// The least element above `after`, or of all.
-    pub(crate) fn next(&self, after: Option<Elem>) -> Option<Elem>
+    /// The least element above `after`, or of all, with a look at the hint first. It counts the individuals, then the
+    /// witnesses.
+    pub(crate) fn next_near(&self, after: Option<Elem>, hint: &mut Hint) -> Option<Elem>
         ensures { IsLeastAbove (Contains self.now) after result }
     {
-        match next_number(self.individuals.as_slice(), after) {
+        let individuals = self.individuals.len();
+        let mut behind = Hint {
+            place: hint.place.saturating_sub(individuals),
+        };
+        match next_number(self.individuals.as_slice(), after, hint) {
             Some(individual) => Some(Elem::Named(individual)),
-            None => match next_witness(self.witnesses.as_slice(), after) {
-                Some(witness) => Some(Elem::Shared(witness)),
-                None => None,
-            },
+            None => {
+                let witness = next_witness(self.witnesses.as_slice(), after, &mut behind);
+                hint.place = individuals.saturating_add(behind.place);
+                match witness {
+                    Some(witness) => Some(Elem::Shared(witness)),
+                    None => None,
+                }
+            }
         }
     }
 
@@ -85,21 +95,19 @@ fn has_witness(witnesses: &[Witness], witness: Witness) -> bool
 }
 
 /// The first of the individuals that is above `after`.
-fn next_number(individuals: &[u32], after: Option<Elem>) -> Option<u32>
+fn next_number(individuals: &[u32], after: Option<Elem>, hint: &mut Hint) -> Option<u32>
     requires { IsStrictlySortedBy nat_cmp individuals.now }
     ensures { IsFirstPast nat_cmp (is_number_passed after) individuals.now result }
 {
-    let at = individuals.partition_point(|n| is_number_passed(*n, after));
-    individuals.get(at).copied()
+    first_near(individuals, hint, |n| is_number_passed(*n, after))
 }
 
 /// The first of the witnesses that is above `after`.
-fn next_witness(witnesses: &[Witness], after: Option<Elem>) -> Option<Witness>
+fn next_witness(witnesses: &[Witness], after: Option<Elem>, hint: &mut Hint) -> Option<Witness>
     requires { IsStrictlySortedBy witness_cmp witnesses.now }
     ensures { IsFirstPast witness_cmp (is_witness_passed after) witnesses.now result }
 {
-    let at = witnesses.partition_point(|w| is_witness_passed(*w, after));
-    witnesses.get(at).copied()
+    first_near(witnesses, hint, |w| is_witness_passed(*w, after))
 }
 
 /// Whether the individual isn't above the element.

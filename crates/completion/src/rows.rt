@@ -6,7 +6,7 @@ ghost use Rattle.dl_base.specs.declared.element.Elem.{Elem as AnyElem};
 
 use crate::edges::{Edge, Edges};
 use crate::members::Members;
-use dl_base::{Elem, Role, Witness};
+use dl_base::{Elem, Hint, Role, Witness};
 use std::marker::Model;
 
 /// The elements from which a role leads, those that point to its witness, and the generation of the witness.
@@ -117,11 +117,17 @@ impl TableRows {
     }
 
     /// The least individual above `after`, or of all, to which a row among individuals leads from here by the role.
-    pub(crate) fn next_target(&self, role: Role, from: Elem, after: Option<Elem>) -> Option<Elem>
+    pub(crate) fn next_target(
+        &self,
+        role: Role,
+        from: Elem,
+        after: Option<Elem>,
+        hint: &mut Hint,
+    ) -> Option<Elem>
         ensures { IsLeastAbove (IsRowFrom self.now role from) after result }
     {
         match from {
-            Elem::Named(from) => self.edges.next(role, from, after),
+            Elem::Named(from) => self.edges.next_near(role, from, after, hint),
             Elem::Shared(_) => None,
         }
     }
@@ -144,13 +150,19 @@ impl TableRows {
     }
 
     /// The least element above `after`, or of all, that points to the witness of the role, where this is the witness.
-    pub(crate) fn next_pointing(&self, role: Role, to: Elem, after: Option<Elem>) -> Option<Elem>
+    pub(crate) fn next_pointing(
+        &self,
+        role: Role,
+        to: Elem,
+        after: Option<Elem>,
+        hint: &mut Hint,
+    ) -> Option<Elem>
         ensures { IsLeastAbove (λ (e : AnyElem). PointsHere self.now role e to) after result }
     {
         match self.lists(role) {
             Some(lists) => {
                 if to == witness_at(role, lists.generation) {
-                    lists.pointing.next(after)
+                    lists.pointing.next_near(after, hint)
                 } else {
                     None
                 }

@@ -5,7 +5,7 @@ ghost use Rattle.completion.specs.TableRows.{table_of};
 
 use crate::Completed;
 use crate::rows::TableRows;
-use dl_base::{Basic, Elem, Role, Tables};
+use dl_base::{Basic, Elem, Hint, Role, Tables};
 
 impl Tables for TableRows {
     ghost rows = { λ t. table_of t };
@@ -28,24 +28,56 @@ impl Tables for TableRows {
     }
 
     fn next_concept(&self, concept: u32, after: Option<Elem>) -> Option<Elem> {
-        match self.members(concept) {
-            Some(members) => members.next(after),
-            None => None,
-        }
+        let mut hint = Hint { place: 0 };
+        self.next_concept_near(concept, after, &mut hint)
     }
 
     fn next_source(&self, role: Role, after: Option<Elem>) -> Option<Elem> {
-        match self.sources(role) {
-            Some(sources) => sources.next(after),
+        let mut hint = Hint { place: 0 };
+        self.next_source_near(role, after, &mut hint)
+    }
+
+    fn next_edge(&self, role: Role, from: Elem, after: Option<Elem>) -> Option<Elem> {
+        let mut hint = Hint { place: 0 };
+        self.next_edge_near(role, from, after, &mut hint)
+    }
+
+    fn next_concept_near(
+        &self,
+        concept: u32,
+        after: Option<Elem>,
+        hint: &mut Hint,
+    ) -> Option<Elem> {
+        match self.members(concept) {
+            Some(members) => members.next_near(after, hint),
             None => None,
         }
     }
 
-    fn next_edge(&self, role: Role, from: Elem, after: Option<Elem>) -> Option<Elem> {
-        let target = self.next_target(role, from, after);
-        let witness = self.next_witness(role, from, after);
-        let pointing = self.next_pointing(role.inverted(), from, after);
-        lesser(target, lesser(witness, pointing))
+    fn next_source_near(&self, role: Role, after: Option<Elem>, hint: &mut Hint) -> Option<Elem> {
+        match self.sources(role) {
+            Some(sources) => sources.next_near(after, hint),
+            None => None,
+        }
+    }
+
+    /// Individuals come before witnesses, and what points to a witness is asked of witnesses alone; so these are looked at
+    /// only where no individual is left.
+    fn next_edge_near(
+        &self,
+        role: Role,
+        from: Elem,
+        after: Option<Elem>,
+        hint: &mut Hint,
+    ) -> Option<Elem> {
+        match self.next_target(role, from, after, hint) {
+            Some(target) => Some(target),
+            None => {
+                let witness = self.next_witness(role, from, after);
+                let pointing = self.next_pointing(role.inverted(), from, after, hint);
+                lesser(witness, pointing)
+            }
+        }
     }
 
     fn count(&self, basic: Basic) -> u64 {
@@ -83,6 +115,29 @@ impl Tables for Completed {
 
     fn next_edge(&self, role: Role, from: Elem, after: Option<Elem>) -> Option<Elem> {
         self.rows().next_edge(role, from, after)
+    }
+
+    fn next_concept_near(
+        &self,
+        concept: u32,
+        after: Option<Elem>,
+        hint: &mut Hint,
+    ) -> Option<Elem> {
+        self.rows().next_concept_near(concept, after, hint)
+    }
+
+    fn next_source_near(&self, role: Role, after: Option<Elem>, hint: &mut Hint) -> Option<Elem> {
+        self.rows().next_source_near(role, after, hint)
+    }
+
+    fn next_edge_near(
+        &self,
+        role: Role,
+        from: Elem,
+        after: Option<Elem>,
+        hint: &mut Hint,
+    ) -> Option<Elem> {
+        self.rows().next_edge_near(role, from, after, hint)
     }
 
     fn count(&self, basic: Basic) -> u64 {

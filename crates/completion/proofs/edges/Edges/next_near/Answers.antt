@@ -1,7 +1,7 @@
 use Rattle.completion.specs.EdgeLists.{edge_cmp}
 use Rattle.completion.proofs.TargetLemmas.{least_end, least_here, least_other, target_leads, targets}
-use Rattle.completion.proofs.edges.Edges.next.Goals.{else-edge-role-via-then-edge-role+else-edge-from, else-edge-role-via-else-edge-role}
-use Rattle.completion.proofs.edges.Edges.next.Goals as goal
+use Rattle.completion.proofs.edges.Edges.next_near.Goals.{else-edge-role-via-then-edge-role+else-edge-from, else-edge-role-via-else-edge-role}
+use Rattle.completion.proofs.edges.Edges.next_near.Goals as goal
 
 pub returns-in-None : goal.returns-in-None
 returns-in-None c =

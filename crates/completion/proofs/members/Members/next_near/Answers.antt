@@ -6,7 +6,7 @@ use Rattle.dl_base.specs.Tables.{IsLeastAbove, witness_cmp}
 use Rattle.dl_base.specs.declared.element.Elem.{Elem}
 use Rattle.dl_base.specs.declared.element.Elem.TheVariants as elem
 use Rattle.dl_base.specs.declared.element.Witness.{Witness}
-use Rattle.completion.proofs.members.Members.next.Goals as goal
+use Rattle.completion.proofs.members.Members.next_near.Goals as goal
 
 pub returns-in-Some : goal.returns-in-Some
 returns-in-Some c =
@@ -14,16 +14,16 @@ returns-in-Some c =
     (least_number c.self.inside.individuals.items c.self.inside.witnesses.items c.args.after c.in-Some.individual
     (subst (λ (ns : List ℕ). IsFirstPast nat_cmp (is_number_passed c.args.after) ns (Some c.in-Some.individual)) c.as_slice.ensures.value c.in-Some.ensures))
 
-pub returns-in-Some-next_witness : goal.returns-in-Some-next_witness
-returns-in-Some-next_witness c =
-    subst (λ (es : List Elem). IsLeastAbove (Contains es) c.args.after (Some (elem.Shared c.in-Some-next_witness.witness))) c.self.view_is
-    (least_witness c.self.inside.individuals.items c.self.inside.witnesses.items c.args.after c.in-Some-next_witness.witness
+pub returns-in-Some-witness : goal.returns-in-Some-witness
+returns-in-Some-witness c =
+    subst (λ (es : List Elem). IsLeastAbove (Contains es) c.args.after (Some (elem.Shared c.in-Some-witness.witness))) c.self.view_is
+    (least_witness c.self.inside.individuals.items c.self.inside.witnesses.items c.args.after c.in-Some-witness.witness
     (subst (λ (ns : List ℕ). IsFirstPast nat_cmp (is_number_passed c.args.after) ns None) c.as_slice.ensures.value c.in-None.ensures)
-    (subst (λ (ws : List Witness). IsFirstPast witness_cmp (is_witness_passed c.args.after) ws (Some c.in-Some-next_witness.witness)) c.as_slice-in-None.ensures.value c.in-Some-next_witness.ensures))
+    (subst (λ (ws : List Witness). IsFirstPast witness_cmp (is_witness_passed c.args.after) ws (Some c.in-Some-witness.witness)) c.as_slice-in-None.ensures.value c.in-Some-witness.ensures))
 
-pub returns-in-None-next_witness : goal.returns-in-None-next_witness
-returns-in-None-next_witness c =
+pub returns-in-None-witness : goal.returns-in-None-witness
+returns-in-None-witness c =
     subst (λ (es : List Elem). IsLeastAbove (Contains es) c.args.after None) c.self.view_is
     (least_none c.self.inside.individuals.items c.self.inside.witnesses.items c.args.after
     (subst (λ (ns : List ℕ). IsFirstPast nat_cmp (is_number_passed c.args.after) ns None) c.as_slice.ensures.value c.in-None.ensures)
-    (subst (λ (ws : List Witness). IsFirstPast witness_cmp (is_witness_passed c.args.after) ws None) c.as_slice-in-None.ensures.value c.in-None-next_witness.ensures))
+    (subst (λ (ws : List Witness). IsFirstPast witness_cmp (is_witness_passed c.args.after) ws None) c.as_slice-in-None.ensures.value c.in-None-witness.ensures))
