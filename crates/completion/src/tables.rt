@@ -61,8 +61,8 @@ impl Tables for TableRows {
         }
     }
 
-    /// Individuals come before witnesses, and what points to a witness is asked of witnesses alone; so these are looked at
-    /// only where no individual is left.
+    /// Individuals come before witnesses, and no element points to an individual; so the witness and what points to one are
+    /// looked at only where no row leads to an individual any more.
     fn next_edge_near(
         &self,
         role: Role,

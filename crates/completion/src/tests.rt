@@ -7,7 +7,7 @@ ghost use Rattle.role_graph.specs.Graph.{IsGraphOf};
 use crate::Completed;
 use assert_tables::Assertions;
 use axiom_reader::read_axiom;
-use dl_base::{Basic, Elem, Ontology, Role, Row, Tables, Witness};
+use dl_base::{Basic, Elem, Hint, Ontology, Role, Row, Tables, Witness};
 use horn_closure::{Rules, Scratch, Steps};
 use role_graph::RoleGraph;
 use std::alloc::{AllocError, Global};
@@ -364,6 +364,144 @@ fn assert_renewals<L: Ledger>(
     assert_lives(rt, alloc, &rules, &graph, &first, &mut scratch, steps)
 }
 
+const PLACES: [usize; 6] = [0, 1, 2, 3, 5, usize::MAX];
+
+/// The next elements behind this one, in two concepts and for two roles, each with the hint at this place.
+fn next_near<T: Tables>(t: &T, after: Option<Elem>, place: usize) -> [Option<Elem>; 4] {
+    let hint = Hint { place };
+    let (mut first, mut second, mut third, mut fourth) = (hint, hint, hint, hint);
+    [
+        t.next_concept_near(0, after, &mut first),
+        t.next_concept_near(1, after, &mut second),
+        t.next_source_near(R, after, &mut third),
+        t.next_source_near(R.inverted(), after, &mut fourth),
+    ]
+}
+
+fn next_plain<T: Tables>(t: &T, after: Option<Elem>) -> [Option<Elem>; 4] {
+    [
+        t.next_concept(0, after),
+        t.next_concept(1, after),
+        t.next_source(R, after),
+        t.next_source(R.inverted(), after),
+    ]
+}
+
+/// The next elements behind this one to which r and its inverse lead, each with the hint at this place.
+fn edges_near<T: Tables>(
+    t: &T,
+    from: Elem,
+    after: Option<Elem>,
+    place: usize,
+) -> [Option<Elem>; 2] {
+    let hint = Hint { place };
+    let (mut first, mut second) = (hint, hint);
+    [
+        t.next_edge_near(R, from, after, &mut first),
+        t.next_edge_near(R.inverted(), from, after, &mut second),
+    ]
+}
+
+fn edges_plain<T: Tables>(t: &T, from: Elem, after: Option<Elem>) -> [Option<Elem>; 2] {
+    [
+        t.next_edge(R, from, after),
+        t.next_edge(R.inverted(), from, after),
+    ]
+}
+
+/// Wherever the hint is, what is found behind the element is what is found without it.
+fn assert_near<T: Tables>(rt: &impl Abort, t: &T, after: Option<Elem>) {
+    let (seven, witness) = (NAMED[1], shared(R, 1));
+    for place in PLACES {
+        assert_eq!(rt; next_near(t, after, place), next_plain(t, after));
+        assert_eq!(rt;
+            edges_near(t, seven, after, place),
+            edges_plain(t, seven, after)
+        );
+        assert_eq!(rt;
+            edges_near(t, witness, after, place),
+            edges_plain(t, witness, after)
+        );
+    }
+}
+
+fn assert_all_near<T: Tables>(rt: &impl Abort, t: &T) {
+    let behind = [
+        None,
+        Some(NAMED[0]),
+        Some(NAMED[1]),
+        Some(NAMED[2]),
+        Some(shared(R, 1)),
+        Some(shared(S, 1)),
+    ];
+    for after in behind {
+        assert_near(rt, t, after);
+    }
+}
+
+/// The first four elements from which the role leads, each with the hint that the one before left, and where the hint is at
+/// the end.
+fn walked_sources<T: Tables>(t: &T, role: Role) -> ([Option<Elem>; 4], usize) {
+    let mut hint = Hint { place: 0 };
+    let mut walked = [None; 4];
+    let mut after = None;
+    for place in 0..walked.len() {
+        after = t.next_source_near(role, after, &mut hint);
+        walked[place] = after;
+    }
+    (walked, hint.place)
+}
+
+/// Rows among individuals, in the order of what they lead from, and behind them a witness. The hint goes from one to the next.
+fn assert_edges_walked<T: Tables>(rt: &impl Abort, t: &T) {
+    let mut hint = Hint { place: 0 };
+    assert_eq!(rt;
+        t.next_edge_near(R, NAMED[0], None, &mut hint),
+        Some(NAMED[1])
+    );
+    assert_eq!(rt;
+        t.next_edge_near(R, NAMED[0], Some(NAMED[1]), &mut hint),
+        None
+    );
+    assert_eq!(rt; hint.place, 1);
+    assert_eq!(rt;
+        t.next_edge_near(R, NAMED[1], None, &mut hint),
+        Some(NAMED[0])
+    );
+    assert_eq!(rt;
+        t.next_edge_near(R, NAMED[1], Some(NAMED[0]), &mut hint),
+        Some(NAMED[2])
+    );
+    assert_eq!(rt; hint.place, 3);
+    assert_eq!(rt;
+        t.next_edge_near(R, NAMED[2], None, &mut hint),
+        Some(shared(R, 1))
+    );
+}
+
+/// Three rows of r among individuals, and a witness that the last of them needs.
+fn assert_hints<L: Ledger>(
+    rt: &impl Abort,
+    alloc: Global,
+    steps: &mut Steps<L>,
+) -> Result<(), Fail> {
+    let rows = [
+        role(0, 3, 7),
+        role(0, 7, 3),
+        role(0, 7, 500_000_000),
+        concept(0, 500_000_000),
+    ];
+    let c = completed(alloc, &rows, steps)?;
+    assert_all_near(rt, &c);
+    assert_edges_walked(rt, &c);
+    let (r, s) = (shared(R, 1), shared(S, 1));
+    let all = [Some(NAMED[0]), Some(NAMED[1]), Some(NAMED[2]), Some(s)];
+    assert_eq!(rt; walked_sources(&c, R), (all, 4));
+    let all = [Some(NAMED[0]), Some(NAMED[1]), Some(NAMED[2]), Some(r)];
+    assert_eq!(rt; walked_sources(&c, S), (all, 4));
+    Ok(())
+}
+
 fn assert_bases<L: Ledger>(rt: &impl Abort, alloc: Global, blank: Blank) -> Result<(), Fail>
     requires name { blank.name ≡ L.name }
     requires parts { blank.parts ≡ L.parts }
@@ -373,6 +511,7 @@ fn assert_bases<L: Ledger>(rt: &impl Abort, alloc: Global, blank: Blank) -> Resu
     assert_chain(rt, alloc, &mut steps)?;
     assert_named(rt, alloc, &mut steps)?;
     assert_inverse(rt, alloc, &mut steps)?;
+    assert_hints(rt, alloc, &mut steps)?;
     assert_renewals(rt, alloc, &mut steps)
 }
 
