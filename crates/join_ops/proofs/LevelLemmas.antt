@@ -91,19 +91,10 @@ pub along_leads : (table : List TableRow) (g : Edge) (s : Source) (front : List 
 along_leads table g s front e (inl is) offered = subst (λ (t : Source). Offers table t front e) is offered
 along_leads table g s front e (inr twin) offered = (subst (λ (t : Source). Offers table t front e) twin.1 offered).0
 
-pub gives_to : (s : Source) (r : Role) (n m k : ℕ) → IsAlong (record { role = r; from = n }) s → m ≡ k → Gives s k (condition.Atom (shape.Role r n m))
-gives_to s r n m k along at table front e long within offered =
-    let is = along_leads table (record { role = r; from = n }) s front e along offered in
-    (is.0, e, place_stays front (e ∷ []) n is.0 is.1, subst (λ (i : ℕ). slice_get (front ++ e ∷ []) i ≡ Some e) (long ∙ sym at) (get_at front e []), is.2)
-
 pub gives_back : (s : Source) (r : Role) (n m k : ℕ) → IsAlong (record { role = record { name = r.name; inverse = not r.inverse }; from = m }) s → n ≡ k → Gives s k (condition.Atom (shape.Role r n m))
 gives_back s r n m k along at table front e long within offered =
     let is = along_leads table (record { role = record { name = r.name; inverse = not r.inverse }; from = m }) s front e along offered in
     (e, is.0, subst (λ (i : ℕ). slice_get (front ++ e ∷ []) i ≡ Some e) (long ∙ sym at) (get_at front e []), place_stays front (e ∷ []) m is.0 is.1, turned_back table r.inverse r.name e is.0 is.2)
-
-pub gives_member : (s : Source) (c n k : ℕ) → s ≡ source.Concept c → n ≡ k → Gives s k (condition.Atom (shape.Concept c n))
-gives_member s c n k is at table front e long within offered =
-    (e, subst (λ (i : ℕ). slice_get (front ++ e ∷ []) i ≡ Some e) (long ∙ sym at) (get_at front e []), subst (λ (t : Source). Offers table t front e) is offered)
 
 pub gives_twins : (s : Source) (t : Twins) (k : ℕ) → IsTwinBy t s → t.twin ≡ k → Gives s k (condition.Twins t)
 gives_twins s t k by at table front e long within offered =

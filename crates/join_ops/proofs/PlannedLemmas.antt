@@ -11,7 +11,7 @@ use Rattle.dl_base.specs.declared.element.Elem.{Elem}
 use Rattle.dl_base.proofs.ElemLemmas.{elem_same}
 use Rattle.dl_base.proofs.PlaceLemmas.{map_contains, map_from, place_of}
 use Rattle.dl_base.proofs.RisingLemmas.{contains_first, slice_same}
-use Rattle.join_ops.specs.Joins.{SearchPlace, Search, BeginsWith, Behind, AreLeft, Advances, IsFixed, IsFound, IsLast, IsNext, SkipsAlike}
+use Rattle.join_ops.specs.Joins.{SearchPlace, Search, HasAllLeft, Behind, AreLeft, Advances, IsFixed, IsFound, IsLast, IsNext, SkipsAlike}
 use Rattle.query_shape.specs.Shape.{Layout, IsLayout, IsShapeMatch}
 use Rattle.join_plan.specs.Plans.{IsPlanOf}
 use Rattle.join_plan.specs.declared.steps.Step.{Step}
@@ -155,7 +155,7 @@ module _ (s : Layout) (steps : List Step) (layout : IsLayout s) (plan : IsPlanOf
     on_these = subst (λ (n : ℕ). AreOnLevels n conditions) (sym whole) (subst (AreOnLevels (length are.order)) are_conditions (on_levels s steps layout plan are.order l.levels are.firsts are.levels_are more under))
 
     -- the images of what is found are matches, each once, and each match that meets the other conditions is among them
-    module _ (search : Search) (same : search.fixed ≡ l.fixed.items) (begins : BeginsWith conditions l.fixed.items search) (table : List TableRow) where
+    module _ (search : Search) (same : search.fixed ≡ l.fixed.items) (begins : HasAllLeft conditions l.fixed.items search) (table : List TableRow) where
       each : (elements : List Elem) → Contains (begins table).0 elements ↔ IsFound table (leveled_atoms l.levels steps ++ more) (fixed_in are.order fixed) elements
       each elements = subst (λ (os : List (Option ℕ)). Contains (begins table).0 elements ↔ IsFound table (leveled_atoms l.levels steps ++ more) os elements) are.fixed_are
           (subst (λ (cs : List Condition). Contains (begins table).0 elements ↔ IsFound table cs l.fixed.items elements) (sym are_conditions) ((begins table).3 elements))
@@ -194,7 +194,7 @@ module _ (s : Layout) (steps : List Step) (layout : IsLayout s) (plan : IsPlanOf
   pub atoms_on : AreOnLevels (length l.fixed.items) l.conditions.items
   atoms_on = on_these [] no_under l.conditions.items no_more
 
-  begins_all : (search : Search) → search.fixed ≡ l.fixed.items → BeginsWith l.conditions.items l.fixed.items search → (table : List TableRow)
+  begins_all : (search : Search) → search.fixed ≡ l.fixed.items → HasAllLeft l.conditions.items l.fixed.items search → (table : List TableRow)
       → (left : List (List Elem)) × HasLeft table (record { levels = l.levels; search = search }) left × AreMatches table s fixed left
   begins_all search same begins table = (
     all_images [] no_under l.conditions.items no_more search same begins table,
@@ -224,7 +224,7 @@ module _ (s : Layout) (steps : List Step) (layout : IsLayout s) (plan : IsPlanOf
     pub twins_on : AreOnLevels (length l.fixed.items) conditions
     twins_on = on_these adds.0 twins_are_under conditions adds.1
 
-    begins_passing : (search : Search) → search.fixed ≡ l.fixed.items → BeginsWith conditions l.fixed.items search → (table : List TableRow)
+    begins_passing : (search : Search) → search.fixed ≡ l.fixed.items → HasAllLeft conditions l.fixed.items search → (table : List TableRow)
         → (left : List (List Elem)) × HasLeft table (record { levels = l.levels; search = search }) left × ArePassing table s trees fixed left
     begins_passing search same begins table = (
       all_images adds.0 twins_are_under conditions adds.1 search same begins table,
@@ -237,7 +237,7 @@ module _ (s : Layout) (steps : List Step) (layout : IsLayout s) (plan : IsPlanOf
       },
     )
 
-    pub passing_by : (m : PlannedSearch) → m.levels ≡ l.levels → m.search.fixed ≡ l.fixed.items → BeginsWith conditions l.fixed.items m.search → (table : List TableRow)
+    pub passing_by : (m : PlannedSearch) → m.levels ≡ l.levels → m.search.fixed ≡ l.fixed.items → HasAllLeft conditions l.fixed.items m.search → (table : List TableRow)
         → (left : List (List Elem)) × HasLeft table m left × ArePassing table s trees fixed left
     passing_by m levels_are fixed_are begins table =
         subst (λ (levels : List ℕ). (left : List (List Elem)) × HasLeft table (record { levels = levels; search = m.search }) left × ArePassing table s trees fixed left) (sym levels_are)

@@ -7,7 +7,7 @@ use Rattle.std.proofs.lemmas.Option.{slice_get-get_or}
 use Rattle.dl_base.specs.Tables.{TableRow, IsLeastAbove}
 use Rattle.dl_base.specs.declared.element.Elem.{Elem}
 use Rattle.join_ops.specs.Joins.{SearchPlace, Start, Behind, Past, IsFound, IsBehind}
-use Rattle.join_ops.specs.Levels.{fixed_on, Fits, IsAt, IsLeast, IsSearch, IsSound}
+use Rattle.join_ops.specs.Levels.{fixed_on, Fits, IsAt, IsLeast, IsSearch, IsWellPlaced}
 use Rattle.join_ops.specs.declared.condition.Condition.{Condition}
 use Rattle.join_ops.specs.declared.level.Level.{Level}
 use Rattle.join_ops.proofs.LevelLemmas.{level_within, goes_deeper, goes_back, gives_least, gives_none, starts, stands, stands_past}
@@ -43,7 +43,7 @@ module _ (table : List TableRow) (conditions : List Condition) (levels : List Le
   level_is l at = rw long (slice_get-get_or levels level l within ∙ ap Some (sym at))
 
   -- what a level offers and tests has its elements
-  pub sound_step : (l : Level) → l ≡ get_or levels level l → IsSound conditions (length (take level images)) l
+  pub sound_step : (l : Level) → l ≡ get_or levels level l → IsWellPlaced conditions (length (take level images)) l
   sound_step l at =
       let is = search.levels_are (length (take level images)) l (level_is l at) in
       record { within = level_within conditions (length (take level images)) l is; under = is.checks_are.under }

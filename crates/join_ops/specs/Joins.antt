@@ -58,8 +58,8 @@ pub record AreLeft (table : List TableRow) (search : Search) (left : List (List 
   pub each : (images : List Elem) → Contains left images ↔ (IsFound table search.conditions search.fixed images × IsBehind search.place images)
 
 -- in any table the search has all left that is found, each once
-abbrev pub BeginsWith : List Condition → List (Option ℕ) → Search → Type 0
-BeginsWith conditions fixed search = (table : List TableRow) → (left : List (List Elem)) × AreLeft table search left × AllPairs (λ x y. x ≢ y) left
+abbrev pub HasAllLeft : List Condition → List (Option ℕ) → Search → Type 0
+HasAllLeft conditions fixed search = (table : List TableRow) → (left : List (List Elem)) × AreLeft table search left × AllPairs (λ x y. x ≢ y) left
     × ((elements : List Elem) → Contains left elements ↔ IsFound table conditions fixed elements)
 
 -- the search stands behind the first of these, and has the others left

@@ -107,7 +107,7 @@ pub record AreChecks (conditions : List Condition) (s : Source) (k : ℕ) (check
   pub all : (c : Condition) → Contains conditions c → IsLevelOf k c → IsUnder (suc k) c → IsChecked conditions checks c ⊎ Gives s k c
 
 -- the level offers from what is in front, and tests what then has its elements
-pub record IsSound (conditions : List Condition) (k : ℕ) (l : Level) : Type 0 where
+pub record IsWellPlaced (conditions : List Condition) (k : ℕ) (l : Level) : Type 0 where
   pub within : IsFromFront k l.source
   pub under : AreUnder conditions (suc k) l.checks.items
 

@@ -6,7 +6,7 @@ use Rattle.tree_witness.specs.declared.trees.TreeEntry.{TreeEntry}
 use Rattle.join_plan.specs.PlanLaws.{atom_of}
 use Rattle.join_plan.specs.declared.steps.Step.{Step}
 use Rattle.query_shape.specs.Shape.{AreFirsts}
-use Rattle.join_ops.specs.Joins.{BeginsWith}
+use Rattle.join_ops.specs.Joins.{HasAllLeft}
 use Rattle.join_ops.specs.Matching.{PlannedSearch}
 use Rattle.join_ops.specs.Orders.{AreLevelsIn, fixed_in, leveled, plan_terms}
 use Rattle.join_ops.specs.declared.order.Leveled.{Leveled}
@@ -30,7 +30,7 @@ pub record AreLeveled (steps : List Step) (fixed : List (Option ℕ)) (l : Level
 pub record BeginsBy (l : Leveled) (m : PlannedSearch) : Type 0 where
   pub levels_are : m.levels ≡ l.levels
   pub fixed_are : m.search.fixed ≡ l.fixed.items
-  pub begins : BeginsWith l.conditions.items l.fixed.items m.search
+  pub begins : HasAllLeft l.conditions.items l.fixed.items m.search
 
 -- the twins, by level, of an oriented atom and a term of its tree
 abbrev pub twins_of : List ℕ → OrientedAtom → ReachedTerm → Twins

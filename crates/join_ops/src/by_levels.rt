@@ -3,7 +3,7 @@ ghost use Rattle.std.specs.Prelude.{◌≡◌, List, length, IfOk};
 ghost use Rattle.std.specs.Bool.{OnFalse};
 ghost use Rattle.dl_base.specs.Tables.{TableRow};
 ghost use Rattle.dl_base.specs.declared.element.Elem.{Elem as AnyElem};
-ghost use Rattle.join_ops.specs.Joins.{Advances, AreLeft, BeginsWith, Behind, IsAway, SkipsAlike};
+ghost use Rattle.join_ops.specs.Joins.{Advances, AreLeft, HasAllLeft, Behind, IsAway, SkipsAlike};
 ghost use Rattle.join_ops.specs.Levels.{AreOnLevels};
 
 use crate::condition::Condition;
@@ -48,7 +48,7 @@ impl LevelSearch {
         requires { AreOnLevels (length fixed.now) conditions.items }
         ensures fixed { IfOk result (λ m. m.fixed ≡ fixed.now) }
         ensures away { IfOk result (λ m. IsAway m.place) }
-        ensures left { IfOk result (BeginsWith conditions.items fixed.now) }
+        ensures left { IfOk result (HasAllLeft conditions.items fixed.now) }
     {
         let levels = levels(alloc, conditions.as_slice(), fixed)?;
         let elements = vec![in alloc; Elem::Named(0); fixed.len()]?;

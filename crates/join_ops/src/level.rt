@@ -7,7 +7,7 @@ ghost use Rattle.query_shape.specs.Shape.{IsTermOf};
 ghost use Rattle.query_shape.specs.declared.layout.ShapeAtom.{ShapeAtom as AnyAtom};
 ghost use Rattle.join_ops.specs.declared.condition.Condition.TheVariants.{Atom as OfAtom};
 ghost use Rattle.join_ops.specs.Conditions.{IsLevelOf, IsUnder};
-ghost use Rattle.join_ops.specs.Levels.{AreChecks, AreLevels, AreUnder, Fits, Gives, IsFromFront, IsSound, IsTwin, LeadsTo, MeetsAll, Offers, fixed_on};
+ghost use Rattle.join_ops.specs.Levels.{AreChecks, AreLevels, AreUnder, Fits, Gives, IsFromFront, IsWellPlaced, IsTwin, LeadsTo, MeetsAll, Offers, fixed_on};
 
 use crate::condition::{Condition, Twins, has_edge};
 use crate::source::{Edge, Source, source_of};
@@ -78,7 +78,7 @@ pub(crate) fn candidate<T: Tables>(
     after: Option<Elem>,
     hint: &mut Hint,
 ) -> Option<Elem>
-    requires { IsSound conditions.now (length front.now) level.now }
+    requires { IsWellPlaced conditions.now (length front.now) level.now }
     ensures { IsLeastAbove (Fits (T.rows t.now) conditions.now level.now front.now) after result }
 {
     let mut above = after;

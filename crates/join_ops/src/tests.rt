@@ -1,11 +1,12 @@
 //! Matches beside those that a small table has by hand.
-ghost use Rattle.std.specs.Prelude.{◌≡◌, length};
+ghost use Rattle.std.specs.Prelude.{◌≡◌, ◌≤◌, ◌<◌, length};
 
 use crate::Matches;
 use cq_reader::read_query;
 use dl_base::{Axiom, Elem, Items, Name, Names, Ontology, Role, Witness};
 use join_plan::plan;
 use listed_tables::{ListedRow, ListedTables};
+use match_filter::lifts;
 use query_shape::{Shape, shape};
 use std::alloc::{AllocError, Global};
 use std::process::Abort;
@@ -192,6 +193,38 @@ fn count_by_trees(
     Ok(200)
 }
 
+/// Individuals 0, 1 and 2, where the second and the third are A: what follows of r(0,1) by A ⊑ ∃r, ∃r⁻ ⊑ ∃s and ∃s⁻ ⊑ ∃r⁻. So the
+/// witness of s leads to itself by s, and the witness of the inverse of r leads to it by r.
+const FOLLOWS: [(u32, Elem, Elem); 7] = [
+    (0, Elem::Named(0), Elem::Named(1)),
+    (0, Elem::Named(1), WITNESS),
+    (0, Elem::Named(2), WITNESS),
+    (0, WITNESS_BACK, WITNESS_OF_S),
+    (1, Elem::Named(1), WITNESS_OF_S),
+    (1, WITNESS, WITNESS_OF_S),
+    (1, WITNESS_OF_S, WITNESS_OF_S),
+];
+
+const WITNESS_BACK: Elem = Elem::Shared(Witness {
+    role: Role {
+        name: 0,
+        inverse: true,
+    },
+    generation: 1,
+});
+
+const WITNESS_OF_S: Elem = Elem::Shared(Witness {
+    role: Role {
+        name: 1,
+        inverse: false,
+    },
+    generation: 1,
+});
+
+const ROLE_TEXTS: [&[u8]; 2] = [b"r(", b"s("];
+
+const VARIABLES: [&[u8]; 4] = [b"?a", b"?b", b"?c", b"?d"];
+
 /// The images of up to 20 matches in rising order, one match behind another. Where `skip` is given, those that agree with
 /// a match on so many first levels are skipped.
 fn found(
@@ -281,6 +314,90 @@ fn gives_one_match_for_each_that_shares(rt: HostRuntime) -> Result<(), Fail> {
         let s = shape_of(rt.alloc(), &o, text)?;
         assert!(&rt; fixed.len() == s.terms());
         assert_eq!(&rt; count_by_trees(rt.alloc(), &t, &s, fixed)?, wanted);
+    }
+    Ok(())
+}
+
+fn completed_tables(alloc: Global) -> Result<ListedTables, AllocError> {
+    let mut rows = Vec::new(alloc);
+    for (role, from, to) in FOLLOWS {
+        rows.push(ListedRow::Role { role, from, to })?;
+    }
+    Ok(ListedTables::new(rows))
+}
+
+/// The next of a sequence of numbers that look random.
+fn draw(seed: &mut u64, bound: u64) -> u64
+    requires { 1 ≤ bound }
+    ensures { result < bound }
+{
+    *seed = seed
+        .wrapping_mul(6364136223846793005)
+        .wrapping_add(1442695040888963407);
+    (*seed >> 33) % bound
+}
+
+fn add_atom(text: &mut Vec<u8>, seed: &mut u64) -> Result<(), AllocError> {
+    text.extend_from_slice(ROLE_TEXTS[draw(seed, 2) as usize])?;
+    text.extend_from_slice(VARIABLES[draw(seed, 4) as usize])?;
+    text.extend_from_slice(b", ")?;
+    text.extend_from_slice(VARIABLES[draw(seed, 4) as usize])?;
+    text.extend_from_slice(b")")
+}
+
+/// A query of one to six role atoms.
+fn random_query(alloc: Global, seed: &mut u64) -> Result<Vec<u8>, AllocError> {
+    let mut text = Vec::new(alloc);
+    text.extend_from_slice(b"q() :- ")?;
+    for _ in 0..draw(seed, 6) {
+        add_atom(&mut text, seed)?;
+        text.extend_from_slice(b", ")?;
+    }
+    add_atom(&mut text, seed)?;
+    Ok(text)
+}
+
+/// Asserts that each match passes where it lifts, and that a search that knows the trees gives, of up to 3,000 matches in their
+/// order, some alone, and all that pass.
+fn assert_passes_where_it_lifts(
+    rt: &impl Abort,
+    alloc: Global,
+    t: &ListedTables,
+    s: &Shape,
+) -> Result<(), AllocError> {
+    let p = plan(alloc, s, &[], t)?;
+    let trees = TreeWitnesses::build(alloc, s)?;
+    let fixed = vec![in alloc; None; s.terms()]?;
+    let mut all = Matches::new(alloc, s, &p, fixed.as_slice())?;
+    let mut by_trees = Matches::with_trees(alloc, s, &p, fixed.as_slice(), &trees)?;
+    let mut is_left = by_trees.advance(t);
+    for _ in 0..3000 {
+        if !all.advance(t) {
+            break;
+        }
+        let images = all.images();
+        assert!(rt; images.len() == s.terms());
+        let passes = trees.passes(images);
+        assert!(rt; passes == lifts(s, images));
+        let is_given = is_left && by_trees.images() == images;
+        assert!(rt; is_given || !passes);
+        if is_given {
+            is_left = by_trees.advance(t);
+        }
+    }
+    assert!(rt; !is_left);
+    Ok(())
+}
+
+#[test]
+fn random_matches_pass_where_they_lift(rt: HostRuntime) -> Result<(), Fail> {
+    let t = completed_tables(rt.alloc())?;
+    let o = ontology(rt.alloc())?;
+    let mut seed = 27;
+    for _ in 0..300 {
+        let text = random_query(rt.alloc(), &mut seed)?;
+        let s = shape_of(rt.alloc(), &o, text.as_slice())?;
+        assert_passes_where_it_lifts(&rt, rt.alloc(), &t, &s)?;
     }
     Ok(())
 }
