@@ -1,13 +1,18 @@
 -- Sets of keys, seen by what a key is read as.
-use Rattle.std.proofs.Common.{◌≡◌, inl, inr, true, List, [], ◌∷◌, map, Contains, refl, sym, ◌∙◌, ap, subst}
-use Rattle.std.specs.Cmp.{IsTotalOrder}
-use Rattle.std.specs.List.{AllByRecursion, list_any}
+use Rattle.std.proofs.Common.{◌≡◌, ℕ, nat_eq, inl, inr, Bool, true, List, [], ◌∷◌, map, Contains, refl, sym, ◌∙◌, ap, subst}
+use lib.Pointwise.{pointwise}
+use Rattle.std.specs.Cmp.{IsEquivalence, IsTotalOrder}
+use Rattle.std.specs.List.{AllByRecursion, dedup, list_any}
+use Rattle.std.proofs.lemmas.List.Kept.{Any-dedup}
 use Rattle.std.specs.List.Sorted.{IsStrictlySortedBy}
 use Rattle.std.specs.BTreeMap.{is_at}
 use Rattle.std.specs.BTreeSet.{insert_key}
 use Rattle.std.specs.declared.cmp.Ordering.{Ordering}
 use Rattle.std.specs.declared.cmp.Ordering.TheVariants.{Less, Equal, Greater}
-use Rattle.std.specs.Ordering.{match_ordering}
+use Rattle.std.specs.Ordering.{is_eq, match_ordering, nat_cmp}
+use Rattle.std.specs.Cmp.Lexicographic.{slice_cmp, texts_ties}
+use Rattle.dl_base.proofs.RowLemmas.{name_same}
+use Rattle.dl_base.proofs.PlaceLemmas.{map_contains, map_from}
 use Rattle.dl_base.proofs.RisingLemmas.{placed, placed_adds, contains_first, contains_later}
 use Rattle.answer_core.specs.Found.{AddsKey}
 
@@ -62,3 +67,19 @@ module _ {K X : Type 0} (f : K → X) (R : X → X → Ordering) where
   unfolding IsStrictlySortedBy
   rising_reads [] rises = tt
   rising_reads (k ∷ ks) rises = (above_reads (f k) ks rises.0, rising_reads ks rises.1)
+
+-- what is left of keys that count as the same is read as they were
+module _ {K X : Type 0} (f : K → X) {E : K → K → Bool} (e : IsEquivalence E) (exact : (x y : K) → E x y ≡ true → f x ≡ f y) where
+  pub dedup_reads : (ks : List K) (x : X) → Contains (map f ks) x → Contains (map f (dedup E ks)) x
+  dedup_reads ks x c =
+      let k = map_from f ks x c in
+      let kept = Any-dedup e ks k.0 k.1 in
+      subst (Contains (map f (dedup E ks))) (sym (k.2 ∙ exact k.0 kept.1 kept.4)) (map_contains f (dedup E ks) kept.1 (kept.0, kept.2, kept.3))
+
+pub texts_same : (xs ys : List ℕ) → pointwise nat_eq xs ys ≡ true → xs ≡ ys
+texts_same xs ys e = name_same xs ys (by (slice_cmp nat_cmp xs ys) (sym (texts_ties xs ys) ∙ e))
+  where
+    by : (o : Ordering) → is_eq o ≡ true → o ≡ Equal
+    by Less e = absurd (cc)
+    by Equal e = refl
+    by Greater e = absurd (cc)

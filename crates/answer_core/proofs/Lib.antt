@@ -3,6 +3,7 @@ pub mod ListLemmas
 pub mod KeySets
 pub mod TermLemmas
 pub mod SpellLemmas
+pub mod KeyOrderLemmas
 pub mod ReadLemmas
 pub mod FoundLemmas
 pub mod RankLemmas

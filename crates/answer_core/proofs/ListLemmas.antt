@@ -1,8 +1,12 @@
 -- Lists that go together, place by place.
-use Rattle.std.proofs.Common.{◌≡◌, ℕ, zero, suc, ◌+◌, ◌<◌, List, [], ◌∷◌, ◌++◌, map, length, take, Contains, slice_get, Some, refl, sym, ◌∙◌, ap, subst, arith, add-one}
+use Rattle.std.proofs.Common.{◌≡◌, ℕ, zero, suc, ◌+◌, ◌<◌, List, [], ◌∷◌, ◌++◌, map, length, take, drop, set, get_or, option_map, Vec, Global, All, Contains, slice_get, Some, refl, sym, ◌∙◌, ap, subst, arith, add-one}
 use Rattle.std.specs.List.{AllZip}
-use Rattle.std.proofs.lemmas.List.{append-nil}
-use Rattle.dl_base.proofs.PlaceLemmas.{place_of, some_same}
+use Rattle.std.proofs.Math.Seq.{take-append_seam}
+use Rattle.std.proofs.lemmas.List.{append_assoc, length-map, map-append}
+use Rattle.std.proofs.lemmas.List.Elements.{All-contains}
+use Rattle.std.proofs.lemmas.Option.{get_or_from_slice_get, slice_get-map, slice_get_read}
+use Rattle.dl_base.proofs.PlaceLemmas.{member_at, place_of, some_same, something_at}
+use Rattle.answer_core.specs.Ranks.{rows_of}
 
 -- an item is at some place
 pub at_place : {X : Type 0} (xs : List X) (x : X) → Contains xs x → (k : ℕ) × (k < length xs) × (slice_get xs k ≡ Some x)
@@ -45,6 +49,40 @@ zip_each R [] (y ∷ ys) long each = absurd (omega (arith, long))
 zip_each R (x ∷ xs) [] long each = absurd (omega (arith, long))
 zip_each R (x ∷ xs) (y ∷ ys) long each = (each 0 x y refl refl, zip_each R xs ys (omega (arith, long)) (λ k. each (suc k)))
 
--- nothing is left
-pub all_taken : {K X : Type 0} (f : K → X) (done all : List X) (left : List K) → done ++ map f left ≡ all → left ≡ [] → done ≡ all
-all_taken f done all left whole none = sym (append-nil done) ∙ (ap (λ ks. done ++ map f ks) (sym none) ∙ whole)
+-- one more item is mapped in its place
+mapped_at : (f : ℕ → ℕ) (xs : List ℕ) (i : ℕ) → i < length xs
+    → set (map f (take i xs) ++ drop i xs) i (f (get_or (map f (take i xs) ++ drop i xs) i 0)) ≡ map f (take (suc i) xs) ++ drop (suc i) xs
+mapped_at f [] i below = absurd (omega arith)
+mapped_at f (x ∷ xs) zero below = refl
+mapped_at f (x ∷ xs) (suc i) below = ap (λ ys. f x ∷ ys) (mapped_at f xs i (omega arith))
+
+pub mapped_put : (f : ℕ → ℕ) (xs ys : List ℕ) (i : ℕ) → ys ≡ map f (take i xs) ++ drop i xs → i < length xs
+    → set ys i (f (get_or ys i 0)) ≡ map f (take (i + 1) xs) ++ drop (i + 1) xs
+mapped_put f xs ys i is below = rw (is, add-one) (mapped_at f xs i below)
+
+-- an item is at its place in what is mapped
+pub mapped_read : {A B : Type 0} (f : A → B) (xs : List A) (i : ℕ) (x : A) → i < length xs → x ≡ get_or xs i x → slice_get (map f xs) i ≡ Some (f x)
+mapped_read f xs i x below is = slice_get-map f xs i ∙ ap (option_map f) (slice_get_read xs (length xs) i x refl below is)
+
+-- what holds of each list in the vectors holds of that in one of them
+pub all_row : (P : List ℕ → Type 0) (rows : List (Vec ℕ Global)) (i : ℕ) (row : Vec ℕ Global) → All P (rows_of rows) → i < length rows → row ≡ get_or rows i row → P row.items
+all_row P rows i row all below is = All-contains P (rows_of rows) row.items all (member_at (rows_of rows) i row.items (mapped_read (λ (r : Vec ℕ Global). r.items) rows i row below is))
+
+pub rows_all : (P : List ℕ → Type 0) (rows : List (Vec ℕ Global)) → ((k : ℕ) (row : Vec ℕ Global) → k < length rows → slice_get rows k ≡ Some row → P row.items) → All P (rows_of rows)
+rows_all P rows each k d below =
+    let within : k < length rows = omega (arith, below, length-map rows (λ (r : Vec ℕ Global). r.items)) in
+    let row = something_at rows k within in
+    let at : slice_get (rows_of rows) k ≡ Some row.0.items = slice_get-map (λ (r : Vec ℕ Global). r.items) rows k ∙ ap (option_map (λ (r : Vec ℕ Global). r.items)) row.1 in
+    subst P (sym (get_or_from_slice_get (rows_of rows) k row.0.items d at)) (each k row.0 within row.1)
+
+-- one more list is mapped and moved
+pub row_moved : (f : List ℕ → List ℕ) (rows new left rest : List (Vec ℕ Global)) (key moved : Vec ℕ Global) (all : List (List ℕ)) → rows_of rows ++ map f (rows_of left) ≡ all → left ≡ key ∷ rest
+    → new ≡ rows ++ moved ∷ [] → moved.items ≡ f key.items → rows_of new ++ map f (rows_of rest) ≡ all
+row_moved f rows new left rest key moved all whole front grown is =
+    let reads : rows_of new ≡ rows_of rows ++ f key.items ∷ [] = ap rows_of grown ∙ map-append (λ (r : Vec ℕ Global). r.items) rows (moved ∷ []) ∙ ap (λ (x : List ℕ). rows_of rows ++ x ∷ []) is in
+    ap (λ (rs : List (List ℕ)). rs ++ map f (rows_of rest)) reads ∙ append_assoc (rows_of rows) (f key.items ∷ []) (map f (rows_of rest))
+    ∙ ap (λ (ks : List (Vec ℕ Global)). rows_of rows ++ map f (rows_of ks)) (sym front) ∙ whole
+
+-- what a whole slice of a vector is overwritten with
+pub written : {X : Type 0} (n : ℕ) (new old : List X) → length new ≡ n → take n (new ++ drop (length new) old) ≡ new
+written {X} n new old long = subst (λ (m : ℕ). take m (new ++ drop (length new) old) ≡ new) long (take-append_seam new (drop (length new) old))

@@ -2,3 +2,4 @@ pub mod Keys
 pub mod AnswerLaws
 pub mod Binding
 pub mod Found
+pub mod Ranks

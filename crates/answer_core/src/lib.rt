@@ -5,8 +5,9 @@ mod answer_list;
 mod bound;
 mod fixed;
 pub mod laws;
-mod name_keys;
 mod number_keys;
+mod ranks;
+mod rows;
 
 pub use answer_list::answers;
 pub use bound::{Bound, bind};

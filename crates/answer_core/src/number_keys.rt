@@ -1,9 +1,11 @@
 //! Keys by the numbers of their individuals.
 ghost use Rattle.std.specs.Prelude.{◌≡◌, ◌<◌, [], All, IfOk, OnOk, OnErr, length};
-ghost use Rattle.answer_core.specs.Found.{AddsKey, AreSpelled, Spells};
+ghost use Rattle.answer_core.specs.Found.{AddsKey, AreSpelled};
+ghost use Rattle.answer_core.specs.Ranks.{rows_of};
 
-use crate::name_keys::NameKeys;
-use dl_base::{Keys, Name, NameBook};
+use crate::ranks::{by_name, ranks};
+use crate::rows::{marks, put_in_order, ranked, spelled_rows};
+use dl_base::{Keys, NameBook};
 use std::alloc::{AllocError, Global};
 use std::collections::BTreeSet;
 use std::marker::Model;
@@ -45,31 +47,29 @@ impl NumberKeys {
         Ok(())
     }
 
-    /// The keys by name, in order.
-    pub(crate) fn spelled(&self, alloc: Global, individuals: &NameBook) -> Result<Keys, AllocError>
-        requires { All (All (λ n. n < length individuals.now)) self.now }
-        ensures { IfOk result (AreSpelled individuals.now self.now) }
+    /// The keys by name, in order. Names are compared to rank the individuals that are in keys, and keys by these ranks. Each
+    /// name is copied once for each key that has it.
+    pub(crate) fn spelled(self, alloc: Global, individuals: &NameBook) -> Result<Keys, AllocError>
+        requires { All (All (λ n. n < length individuals.now)) self }
+        ensures { IfOk result (AreSpelled individuals.now self) }
     {
-        let mut names = NameKeys::new(alloc);
-        for key in &self.keys {
-            names.add(spelled_key(alloc, individuals, key)?)?;
-        }
-        names.into_keys(alloc)
+        let keys = self.into_rows(alloc)?;
+        let marks = marks(alloc, keys.as_slice(), individuals.len())?;
+        let order = by_name(alloc, individuals, marks.as_slice())?;
+        let ranks = ranks(alloc, order.as_slice(), individuals.len())?;
+        let mut rows = ranked(alloc, keys, ranks.as_slice())?;
+        put_in_order(&mut rows);
+        spelled_rows(alloc, order.as_slice(), rows.as_slice())
     }
-}
 
-/// The names of these numbers.
-fn spelled_key(
-    alloc: Global,
-    individuals: &NameBook,
-    numbers: &[u32],
-) -> Result<Vec<Name>, AllocError>
-    requires { All (λ n. n < length individuals.now) numbers.now }
-    ensures { IfOk result (λ key. Spells individuals.now numbers.now key.items) }
-{
-    let mut key = Vec::with_capacity(alloc, numbers.len())?;
-    for number in numbers {
-        key.push(individuals.name(*number).copy(alloc)?)?;
+    /// The keys in a list.
+    fn into_rows(self, alloc: Global) -> Result<Vec<Vec<u32>>, AllocError>
+        ensures { IfOk result (λ rows. rows_of rows.items ≡ self) }
+    {
+        let mut rows = Vec::new(alloc);
+        for key in self.keys {
+            rows.push(key)?;
+        }
+        Ok(rows)
     }
-    Ok(key)
 }

@@ -1,23 +1,28 @@
-use Rattle.std.proofs.Common.{◌<◌, map, length, List, ℕ, All, subst, sym}
-use Rattle.answer_core.specs.Found.{Spells}
-use Rattle.answer_core.proofs.SpellLemmas.{AreSpelledOf, next_numbers, spelled_more, spelled_result}
+use Rattle.std.proofs.Common.{◌≡◌, ◌↔◌, ℕ, List, All, Contains, map, subst}
+use Rattle.answer_core.specs.Ranks.{HasRank, ranks_of, rows_of}
+use Rattle.answer_core.proofs.KeyOrderLemmas.{all_ranked, rows_within, spelled_result}
 use Rattle.answer_core.proofs.number_keys.NumberKeys.spelled.Goals as goal
 
-pub spelled_key-requires : goal.spelled_key-requires
-spelled_key-requires c =
-    subst (λ (numbers : List ℕ). All (λ n. n < length c.args.individuals.now) numbers) (sym c.deref.ensures.value)
-    (next_numbers (All (λ n. n < length c.args.individuals.now)) c.args.individuals.now c.args.self.now (map (λ k. k.items) c.next.new.self) c.in-Some.key.now.items c.loop-key.names
-    (subst (λ ks. AreSpelledOf c.args.individuals.now c.args.self.now (map (λ k. k.items) ks) c.loop-key.names) c.in-Some.ensures.steps c.loop-key.invariant) c.requires)
-
-pub loop-key-preserved : goal.loop-key-preserved
-loop-key-preserved c =
-    spelled_more c.args.individuals.now c.args.self.now (map (λ k. k.items) c.next.new.self) c.in-Some.key.now.items c.loop-key.names c.add.new.self c.in_ok-spelled_key.field-0.items
-    (subst (λ ks. AreSpelledOf c.args.individuals.now c.args.self.now (map (λ k. k.items) ks) c.loop-key.names) c.in-Some.ensures.steps c.loop-key.invariant)
-    (subst (λ (numbers : List ℕ). Spells c.args.individuals.now numbers c.in_ok-spelled_key.field-0.items) c.deref.ensures.value c.in_ok-spelled_key.ensures)
-    c.in_ok-add.ensures.ok
+pub spelled_rows-requires : goal.spelled_rows-requires
+spelled_rows-requires c =
+    let all : All (All (HasRank c.in_ok-order.order.items c.in_ok-ranks.ranks.items)) c.args.self =
+    all_ranked c.in_ok-marks.marks.items c.in_ok-order.order.items c.in_ok-ranks.ranks.items c.args.self
+    (rw (c.as_slice.ensures.value, c.in_ok-keys.ensures) at c.in_ok-marks.ensures.marked)
+    (rw c.as_slice-2.ensures.value at c.in_ok-order.ensures.marked) (rw c.as_slice-3.ensures.value at c.in_ok-ranks.ensures.ranked) in
+    let is : rows_of c.in_ok-rows.rows.items ≡ map (ranks_of c.in_ok-ranks.ranks.items) c.args.self = rw (c.as_slice-4.ensures.value, c.in_ok-keys.ensures) at c.in_ok-rows.ensures in
+    let same : (row : List ℕ) → Contains (rows_of c.put_in_order.new.rows.items) row ↔ Contains (map (ranks_of c.in_ok-ranks.ranks.items) c.args.self) row =
+    λ row. subst (λ (rows : List (List ℕ)). Contains (rows_of c.put_in_order.new.rows.items) row ↔ Contains rows row) is (c.put_in_order.ensures.same row) in
+    rw (c.as_slice-6.ensures.value, c.as_slice-5.ensures.value)
+    (rows_within c.args.individuals.now c.in_ok-order.order.items c.in_ok-ranks.ranks.items c.len.ensures.distinct c.in_ok-order.ensures.in_order c.args.self all (rows_of c.put_in_order.new.rows.items) same)
 
 pub returns : goal.returns
 returns c =
-    spelled_result c.args.individuals.now c.args.self.now c.loop-key.names c.into_keys.result
-    (subst (λ ks. AreSpelledOf c.args.individuals.now c.args.self.now (map (λ k. k.items) ks) c.loop-key.names) c.in-None.ensures.steps.0 c.loop-key.invariant)
-    c.into_keys.ensures.list c.into_keys.ensures.rising
+    let all : All (All (HasRank c.in_ok-order.order.items c.in_ok-ranks.ranks.items)) c.args.self =
+    all_ranked c.in_ok-marks.marks.items c.in_ok-order.order.items c.in_ok-ranks.ranks.items c.args.self
+    (rw (c.as_slice.ensures.value, c.in_ok-keys.ensures) at c.in_ok-marks.ensures.marked)
+    (rw c.as_slice-2.ensures.value at c.in_ok-order.ensures.marked) (rw c.as_slice-3.ensures.value at c.in_ok-ranks.ensures.ranked) in
+    let is : rows_of c.in_ok-rows.rows.items ≡ map (ranks_of c.in_ok-ranks.ranks.items) c.args.self = rw (c.as_slice-4.ensures.value, c.in_ok-keys.ensures) at c.in_ok-rows.ensures in
+    let same : (row : List ℕ) → Contains (rows_of c.put_in_order.new.rows.items) row ↔ Contains (map (ranks_of c.in_ok-ranks.ranks.items) c.args.self) row =
+    λ row. subst (λ (rows : List (List ℕ)). Contains (rows_of c.put_in_order.new.rows.items) row ↔ Contains rows row) is (c.put_in_order.ensures.same row) in
+    spelled_result c.args.individuals.now c.in_ok-order.order.items c.in_ok-ranks.ranks.items c.len.ensures.distinct c.in_ok-order.ensures.in_order c.args.self all (rows_of c.put_in_order.new.rows.items) same
+    c.spelled_rows.result c.put_in_order.ensures.rising (rw (c.as_slice-6.ensures.value, c.as_slice-5.ensures.value) at c.spelled_rows.ensures)
