@@ -1,8 +1,9 @@
 -- Sets of keys, seen by what a key is read as.
-use Rattle.std.proofs.Common.{◌≡◌, ℕ, nat_eq, inl, inr, Bool, true, List, [], ◌∷◌, map, Contains, refl, sym, ◌∙◌, ap, subst}
+use Rattle.std.proofs.Common.{◌≡◌, ℕ, nat_eq, arith, false, ◌⊎◌, inl, inr, Bool, true, List, [], ◌∷◌, map, Contains, refl, sym, ◌∙◌, ap, subst}
 use lib.Pointwise.{pointwise}
 use Rattle.std.specs.Cmp.{IsEquivalence, IsTotalOrder}
 use Rattle.std.specs.List.{AllByRecursion, dedup, list_any}
+use Rattle.std.proofs.lemmas.Cmp.{nat_list_eq_equiv}
 use Rattle.std.proofs.lemmas.List.Kept.{Any-dedup}
 use Rattle.std.specs.List.Sorted.{IsStrictlySortedBy}
 use Rattle.std.specs.BTreeMap.{is_at}
@@ -13,8 +14,8 @@ use Rattle.std.specs.Ordering.{is_eq, match_ordering, nat_cmp}
 use Rattle.std.specs.Cmp.Lexicographic.{slice_cmp, texts_ties}
 use Rattle.dl_base.proofs.RowLemmas.{name_same}
 use Rattle.dl_base.proofs.PlaceLemmas.{map_contains, map_from}
-use Rattle.dl_base.proofs.RisingLemmas.{placed, placed_adds, contains_first, contains_later}
-use Rattle.answer_core.specs.Found.{AddsKey}
+use Rattle.dl_base.proofs.RisingLemmas.{placed, placed_adds, contains_cases, contains_first, contains_later}
+use Rattle.answer_core.specs.Found.{AddsKey, HasLast, has_key}
 
 module _ {K X : Type 0} (f : K → X) (R : X → X → Ordering) (total : IsTotalOrder R) (same : (x y : X) → R x y ≡ Equal → x ≡ y) where
   insert_reads : (k : K) (ks : List K) → map f (insert_key (λ a b. R (f a) (f b)) ks k) ≡ placed R total same (f k) (map f ks)
@@ -83,3 +84,27 @@ texts_same xs ys e = name_same xs ys (by (slice_cmp nat_cmp xs ys) (sym (texts_t
     by Less e = absurd (cc)
     by Equal e = refl
     by Greater e = absurd (cc)
+
+-- the test for a key tells whether it is there
+key_cases : (keys : List (List ℕ)) (key k : List ℕ) (b : Bool) → pointwise nat_eq key k ≡ b → (has_key keys key ≡ true → Contains keys key) → has_key (k ∷ keys) key ≡ true → Contains (k ∷ keys) key
+key_cases keys key k true is rest e = subst (Contains (k ∷ keys)) (sym (texts_same key k is)) (contains_first k keys)
+key_cases keys key k false is rest e = contains_later k keys key (rest (rw is at e))
+
+pub key_there : (keys : List (List ℕ)) (key : List ℕ) → has_key keys key ≡ true → Contains keys key
+key_there [] key e = absurd (cc)
+key_there (k ∷ keys) key e = key_cases keys key k (pointwise nat_eq key k) refl (key_there keys key) e
+
+there_cases : (keys : List (List ℕ)) (key k : List ℕ) (b : Bool) → pointwise nat_eq key k ≡ b → (Contains keys key → has_key keys key ≡ true) → (key ≡ k) ⊎ Contains keys key → has_key (k ∷ keys) key ≡ true
+there_cases keys key k true is rest either = rw is refl
+there_cases keys key k false is rest (inl same) =
+    let e : pointwise nat_eq key k ≡ true = subst (λ (x : List ℕ). pointwise nat_eq key x ≡ true) same (nat_list_eq_equiv.refl key) in
+    let no : false ≡ true = sym is ∙ e in absurd (cc)
+there_cases keys key k false is rest (inr c) = rw is (rest c)
+
+pub has_there : (keys : List (List ℕ)) (key : List ℕ) → Contains keys key → has_key keys key ≡ true
+has_there [] key c = absurd (omega (arith, c.1))
+has_there (k ∷ keys) key c = there_cases keys key k (pointwise nat_eq key k) refl (has_there keys key) (contains_cases k keys key c)
+
+pub last_there : (has : Bool) (last : List ℕ) (keys : List (List ℕ)) → has ≡ true → HasLast has last keys → Contains keys last
+last_there true last keys is h = key_there keys last h
+last_there false last keys is h = absurd (cc)

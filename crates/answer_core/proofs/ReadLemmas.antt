@@ -50,6 +50,11 @@ reads_same images count (p ∷ ps) (n ∷ ns) (m ∷ ms) r s =
     let tail : ms ≡ ns = reads_same images count ps ns ms r.1 s.1 in
     λ j. head j ∷ tail j
 
+-- where the key that is read is there, so is any that is read
+pub known_read : (images : List Elem) (count : ℕ) (places key numbers : List ℕ) (found : List (List ℕ)) → Contains found key → AllStand images places count key → AllStand images places count numbers
+    → Contains found numbers
+known_read images count places key numbers found there reads other = subst (Contains found) (sym (reads_same images count places key numbers reads other)) there
+
 pub adds_read : (images : List Elem) (count : ℕ) (places key : List ℕ) (old new : List (List ℕ)) → AddsKey old key new → AllStand images places count key
     → (numbers : List ℕ) → Contains new numbers ↔ (Contains old numbers ⊎ AllStand images places count numbers)
 adds_read images count places key old new adds reads numbers = (

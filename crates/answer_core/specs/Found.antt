@@ -1,6 +1,7 @@
 -- Keys by the numbers of their individuals.
-use Rattle.std.specs.Prelude.{◌≡◌, ◌≢◌, ◌⊎◌, ◌↔◌, ◌<◌, ℕ, List, Option, Some, slice_get, All, AllPairs, Contains}
-use Rattle.std.specs.List.{AllZip}
+use Rattle.std.specs.Prelude.{◌≡◌, ◌≢◌, ◌⊎◌, ◌↔◌, ◌<◌, ℕ, Bool, true, false, nat_eq, List, Option, Some, slice_get, All, AllPairs, Contains}
+use Rattle.std.specs.List.{AllZip, list_any}
+use lib.Pointwise.{pointwise}
 use Rattle.std.specs.List.Sorted.{IsStrictlySortedBy}
 use Rattle.dl_base.specs.Ontology.{Terminology}
 use Rattle.dl_base.specs.Answers.{key_cmp}
@@ -59,6 +60,15 @@ AreWithin count = All (All (λ n. n < count))
 -- one more key, which is one of them however often it was there
 abbrev pub AddsKey : {X : Type 0} → List X → X → List X → Type 0
 AddsKey {X} old key new = (z : X) → Contains new z ↔ (Contains old z ⊎ (z ≡ key))
+
+-- the key is one of these
+abbrev pub has_key : List (List ℕ) → List ℕ → Bool
+has_key keys key = list_any (λ k. pointwise nat_eq key k) keys
+
+-- if a last key is said to be there, it is one of these
+abbrev pub HasLast : Bool → List ℕ → List (List ℕ) → Type 0
+HasLast true last keys = has_key keys last ≡ true
+HasLast false last keys = Unit {0}
 
 -- the names of these numbers
 abbrev pub Spells : List (List ℕ) → List ℕ → List (List ℕ) → Type 0

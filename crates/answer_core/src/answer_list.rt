@@ -116,6 +116,9 @@ fn add_key(
     if !read_key(images, places, count, key) {
         return Ok(true);
     }
+    if found.is_last(key) {
+        return Ok(true);
+    }
     if !trees.passes(images) {
         return Ok(false);
     }

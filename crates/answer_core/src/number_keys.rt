@@ -1,5 +1,6 @@
 //! Keys by the numbers of their individuals.
-ghost use Rattle.std.specs.Prelude.{◌≡◌, ◌<◌, [], All, IfOk, OnOk, OnErr, length};
+ghost use Rattle.std.specs.Prelude.{◌≡◌, ◌<◌, ◌↔◌, [], All, Contains, IfOk, IsTrue, OnOk, OnErr, length};
+ghost use Rattle.std.specs.Bool.{OnTrue};
 ghost use Rattle.answer_core.specs.Found.{AddsKey, AreSpelled};
 ghost use Rattle.answer_core.specs.Ranks.{rows_of};
 
@@ -10,10 +11,12 @@ use std::alloc::{AllocError, Global};
 use std::collections::BTreeSet;
 use std::marker::Model;
 
-/// Keys by number, each once. Contracts see them as the list in rising order.
+/// Keys by number, each once, and the one that was found last. Contracts see them as the list in rising order.
 #[derive(Drop)]
 pub(crate) struct NumberKeys {
     keys: BTreeSet<Vec<u32>>,
+    last: Vec<u32>,
+    has_last: bool,
 }
 
 impl Model for NumberKeys {
@@ -21,7 +24,11 @@ impl Model for NumberKeys {
 
     ghost Value = { List (List ℕ) };
 
+    ghost use Rattle.answer_core.specs.Found.{HasLast};
+
     ghost view = { λ s. map (λ k. k.items) s.keys.keys };
+
+    ghost invariant = { λ s. HasLast s.has_last s.last.items (map (λ k. k.items) s.keys.keys) };
 }
 
 impl NumberKeys {
@@ -31,19 +38,28 @@ impl NumberKeys {
     {
         NumberKeys {
             keys: BTreeSet::new(alloc),
+            last: Vec::new(alloc),
+            has_last: false,
         }
     }
 
-    /// Adds the key. It is copied only where it is new. At `AllocError` the keys are as they were.
+    /// Whether the key is the one that was added last. So it is there, with no search for it.
+    pub(crate) fn is_last(&self, key: &[u32]) -> bool
+        ensures { OnTrue result (Contains self.now key.now) }
+    {
+        self.has_last && is_same(self.last.as_slice(), key)
+    }
+
+    /// Adds the key. It is copied into the set only where it is new. At `AllocError` the keys are as they were.
     pub(crate) fn add(&mut self, alloc: Global, key: &[u32]) -> Result<(), AllocError>
         ensures ok { OnOk result (AddsKey self.old key.now self.new) }
         ensures err { OnErr result (self.new ≡ self.old) }
     {
-        if self.keys.contains(key) {
-            return Ok(());
-        }
-        let copy = Vec::from_slice(alloc, key)?;
-        self.keys.insert(copy)?;
+        self.has_last = false;
+        self.last.clear();
+        self.last.extend_from_slice(key)?;
+        insert(alloc, &mut self.keys, key)?;
+        self.has_last = true;
         Ok(())
     }
 
@@ -72,4 +88,23 @@ impl NumberKeys {
         }
         Ok(rows)
     }
+}
+
+/// Adds a copy of the key where it is new. At `AllocError` the keys are as they were.
+fn insert(alloc: Global, keys: &mut BTreeSet<Vec<u32>>, key: &[u32]) -> Result<(), AllocError>
+    ensures ok { OnOk result (AddsKey (rows_of keys.old.keys) key.now (rows_of keys.new.keys)) }
+    ensures err { OnErr result (rows_of keys.new.keys ≡ rows_of keys.old.keys) }
+{
+    if keys.contains(key) {
+        return Ok(());
+    }
+    let copy = Vec::from_slice(alloc, key)?;
+    keys.insert(copy)?;
+    Ok(())
+}
+
+fn is_same(key: &[u32], other: &[u32]) -> bool
+    ensures { IsTrue result ↔ (key.now ≡ other.now) }
+{
+    key == other
 }

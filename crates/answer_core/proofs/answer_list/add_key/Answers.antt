@@ -1,5 +1,5 @@
 use Rattle.std.proofs.Common.{inl, inr}
-use Rattle.answer_core.proofs.ReadLemmas.{adds_lifted, added_within, reads_same}
+use Rattle.answer_core.proofs.ReadLemmas.{adds_lifted, added_within, known_read, reads_same}
 use Rattle.answer_core.proofs.answer_list.add_key.Goals as goal
 
 pub returns-clause-lifted : goal.returns-clause-lifted
@@ -23,3 +23,16 @@ returns-then-not-passes-clause-lifted c = λ s layout trees o rows names generat
         | inr both ↦ absurd (let passed = decides.1 both.0 in cc)
       ],
     )
+
+pub returns-then-is_last-clause-lifted : goal.returns-then-is_last-clause-lifted
+returns-then-is_last-clause-lifted c = λ s layout trees o rows names generation table base match numbers. (
+  λ there. inl there,
+  λ either. elim either [
+    | inl there ↦ there
+    | inr both ↦ known_read c.args.images.now c.args.count c.args.places.now c.read_key.new.key numbers c.args.found.now c.if-is_last.ensures c.if-not-read_key.ensures.read both.1
+  ],
+)
+
+pub returns-then-is_last-clause-settled : goal.returns-then-is_last-clause-settled
+returns-then-is_last-clause-settled c = λ numbers reads.
+    known_read c.args.images.now c.args.count c.args.places.now c.read_key.new.key numbers c.args.found.now c.if-is_last.ensures c.if-not-read_key.ensures.read reads

@@ -1,17 +1,13 @@
-use Rattle.std.proofs.Common.{Contains, sym, ◌∙◌, subst, List, ℕ}
-use Rattle.std.specs.Ordering.{nat_cmp}
-use Rattle.std.specs.Cmp.Lexicographic.{slice_cmp}
-use Rattle.std.proofs.lemmas.Cmp.{nat_list_cmp_total}
-use Rattle.dl_base.proofs.RowLemmas.{name_same}
-use Rattle.answer_core.proofs.KeySets.{inserted, looked_up, known_key}
+use Rattle.std.proofs.Common.{◌≡◌, ◌++◌, ℕ, List, inr, refl, ◌∙◌, ap, subst}
+use Rattle.answer_core.specs.Found.{AddsKey}
+use Rattle.answer_core.specs.Ranks.{rows_of}
+use Rattle.answer_core.proofs.KeySets.{has_there}
 use Rattle.answer_core.proofs.number_keys.NumberKeys.add.Goals as goal
 
-pub returns-then-contains-clause-ok : goal.returns-then-contains-clause-ok
-returns-then-contains-clause-ok c =
-    known_key c.args.self.now c.args.key.now (subst (λ (keys : List (List ℕ)). Contains keys c.args.key.now) c.self.view_is
-    (looked_up (λ k. k.items) (slice_cmp nat_cmp) nat_list_cmp_total name_same c.args.key.now c.self.inside.keys.keys (sym c.contains.ensures ∙ c.if-contains.true)))
+pub invariant_of-self-2 : goal.invariant_of-self-2
+invariant_of-self-2 c =
+    let is : c.extend_from_slice.new.self.items ≡ c.args.key.now = c.in_ok-extend_from_slice.ensures.items ∙ ap (λ (xs : List ℕ). xs ++ c.args.key.now) c.clear.ensures.items in
+    rw is (has_there (rows_of c.insert.new.keys.keys) c.args.key.now ((c.in_ok-insert.ensures.ok c.args.key.now).1 (inr refl)))
 
 pub returns-clause-ok : goal.returns-clause-ok
-returns-clause-ok c =
-    inserted (λ k. k.items) (slice_cmp nat_cmp) nat_list_cmp_total name_same c.in_ok-copy.copy c.self.inside.keys.keys c.insert.new.self.keys c.args.key.now c.args.self.now
-    c.in_ok-copy.ensures.items c.self.view_is c.in_ok-insert.ensures.keys
+returns-clause-ok c = subst (λ (old : List (List ℕ)). AddsKey old c.args.key.now (rows_of c.insert.new.keys.keys)) c.self.view_is c.in_ok-insert.ensures.ok
