@@ -1,9 +1,10 @@
 -- Sets of keys, seen by what a key is read as.
-use Rattle.std.proofs.Common.{◌≡◌, ℕ, nat_eq, arith, false, ◌⊎◌, inl, inr, Bool, true, List, [], ◌∷◌, map, Contains, refl, sym, ◌∙◌, ap, subst}
+use Rattle.std.proofs.Common.{◌≡◌, ℕ, nat_eq, arith, false, ◌⊎◌, inl, inr, Bool, true, List, [], ◌∷◌, map, ◌++◌, Result, Ok, Err, OnOk, Contains, refl, sym, ◌∙◌, ap, subst}
 use lib.Pointwise.{pointwise}
 use Rattle.std.specs.Cmp.{IsEquivalence, IsTotalOrder}
 use Rattle.std.specs.List.{AllByRecursion, dedup, list_any}
 use Rattle.std.proofs.lemmas.Cmp.{nat_list_eq_equiv}
+use Rattle.std.proofs.lemmas.List.Elements.{Contains-append_cases, Contains-append_left, Contains-append_right, Contains-push, Contains-push_cases}
 use Rattle.std.proofs.lemmas.List.Kept.{Any-dedup}
 use Rattle.std.specs.List.Sorted.{IsStrictlySortedBy}
 use Rattle.std.specs.BTreeMap.{is_at}
@@ -108,3 +109,39 @@ has_there (k ∷ keys) key c = there_cases keys key k (pointwise nat_eq key k) r
 pub last_there : (has : Bool) (last : List ℕ) (keys : List (List ℕ)) → has ≡ true → HasLast has last keys → Contains keys last
 last_there true last keys is h = key_there keys last h
 last_there false last keys is h = absurd (cc)
+
+-- a key that is added to one of two lists is added to both
+module _ {X : Type 0} where
+  pub adds_behind : (first old new : List X) (key : X) → AddsKey old key new → AddsKey (first ++ old) key (first ++ new)
+  adds_behind first old new key adds z = (
+    λ c. elim (Contains-append_cases first new z c) [
+      | inl d ↦ inl (Contains-append_left first old z d)
+      | inr d ↦ elim ((adds z).0 d) [ inl e ↦ inl (Contains-append_right first old z e) | inr e ↦ inr e ]
+    ],
+    λ either. elim either [
+      | inl c ↦ elim (Contains-append_cases first old z c) [
+        | inl d ↦ Contains-append_left first new z d
+        | inr d ↦ Contains-append_right first new z ((adds z).1 (inl d))
+      ]
+      | inr e ↦ Contains-append_right first new z ((adds z).1 (inr e))
+    ],
+  )
+
+  pub adds_between : (first last : List X) (key : X) → AddsKey (first ++ last) key ((first ++ key ∷ []) ++ last)
+  adds_between first last key z = (
+    λ c. elim (Contains-append_cases (first ++ key ∷ []) last z c) [
+      | inl d ↦ elim (Contains-push_cases first key z d) [ inl e ↦ inl (Contains-append_left first last z e) | inr e ↦ inr (sym e) ]
+      | inr d ↦ inl (Contains-append_right first last z d)
+    ],
+    λ either. elim either [
+      | inl c ↦ elim (Contains-append_cases first last z c) [
+        | inl d ↦ Contains-append_left (first ++ key ∷ []) last z (Contains-append_left first (key ∷ []) z d)
+        | inr d ↦ Contains-append_right (first ++ key ∷ []) last z d
+      ]
+      | inr e ↦ Contains-append_left (first ++ key ∷ []) last z (subst (Contains (first ++ key ∷ [])) (sym e) (Contains-push first key))
+    ],
+  )
+
+  pub adds_behind_result : {U E : Type 0} (result : Result U E) (first old new : List X) (key : X) → OnOk result (AddsKey old key new) → OnOk result (AddsKey (first ++ old) key (first ++ new))
+  adds_behind_result (Ok u) first old new key adds = adds_behind first old new key adds
+  adds_behind_result (Err e) first old new key adds = tt

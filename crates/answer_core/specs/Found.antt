@@ -1,5 +1,5 @@
 -- Keys by the numbers of their individuals.
-use Rattle.std.specs.Prelude.{◌≡◌, ◌≢◌, ◌⊎◌, ◌↔◌, ◌<◌, ℕ, Bool, true, false, nat_eq, List, Option, Some, slice_get, All, AllPairs, Contains}
+use Rattle.std.specs.Prelude.{◌≡◌, ◌≢◌, ◌⊎◌, ◌↔◌, ◌<◌, ℕ, Bool, true, false, nat_eq, List, Option, Some, slice_get, slice_index, All, AllPairs, Contains}
 use Rattle.std.specs.List.{AllZip, list_any}
 use lib.Pointwise.{pointwise}
 use Rattle.std.specs.List.Sorted.{IsStrictlySortedBy}
@@ -41,6 +41,10 @@ pub record IsFoundKey (o : Terminology) (rows : List NamedRow) (names : List (Li
   pub lifts : LiftsShape o rows names generation b.shape images
   pub fixed_are : IsFixed fixed images
   pub reads : AllStand images b.answers count numbers
+
+-- one of the terms of these numbers has the level
+abbrev pub IsLevelOfOne : List ℕ → List ℕ → ℕ → Type 0
+IsLevelOfOne levels places level = (p : ℕ) × Contains places p × (slice_index levels p ≡ level)
 
 -- The keys are those that were there and, where the images lift, the one that they have at the places. It is said of each base in
 -- whose completed table the images are a match.

@@ -1,5 +1,5 @@
 //! The answers of a query.
-ghost use Rattle.std.specs.Prelude.{◌≡◌, ◌<◌, ◌⊎◌, ◌↔◌, ℕ, List, All, Contains, IfOk, MatchOption, OnOk, length, slice_index};
+ghost use Rattle.std.specs.Prelude.{◌≡◌, ◌<◌, ◌⊎◌, ◌↔◌, ℕ, List, All, Contains, IfOk, IsTrue, MatchOption, OnOk, length, slice_index};
 ghost use Rattle.std.specs.Bool.{OnTrue, OnFalse};
 ghost use Rattle.dl_base.specs.Ontology.{Terminology, IsTerminology};
 ghost use Rattle.dl_base.specs.Query.{Question, IsQuery};
@@ -10,7 +10,7 @@ ghost use Rattle.dl_base.specs.declared.row.NamedRow.{NamedRow as AnyRow};
 ghost use Rattle.query_shape.specs.Shape.{IsLayout, Layout};
 ghost use Rattle.tree_witness.specs.Trees.{AreTreesOf};
 ghost use Rattle.answer_core.specs.Binding.{IsBoundTo};
-ghost use Rattle.answer_core.specs.Found.{AddsLifted, AllStand, AreWithin, HasKeyOf, IsFoundKey, IsOf, IsTableOf};
+ghost use Rattle.answer_core.specs.Found.{AddsLifted, AllStand, AreWithin, HasKeyOf, IsFoundKey, IsLevelOfOne, IsOf, IsTableOf};
 
 use crate::bound::Bound;
 use crate::fixed::{fixed_numbers, has_names};
@@ -62,9 +62,10 @@ fn found_keys<T: Tables>(
 {
     let places = b.answers.items();
     let mut key = vec![in alloc; 0u32; places.len()]?;
-    let mut found = NumberKeys::new(alloc);
     let mut matches = Matches::with_trees(alloc, &b.shape, &b.plan, fixed, &b.trees)?;
     let levels = levels_up_to(places, matches.levels());
+    let grouped = are_first(places, matches.levels(), levels);
+    let mut found = NumberKeys::new(alloc, grouped);
     'matches: while matches.advance(t) {
         let settled = add_key(
             alloc,
@@ -92,6 +93,33 @@ fn levels_up_to(places: &[u32], levels: &[u32]) -> usize
         most = most.max(levels[*place as usize] as usize + 1);
     }
     most
+}
+
+/// Whether each of so many first levels is that of a term at one of the places. Then matches that come by level have equal
+/// keys one after another.
+fn are_first(places: &[u32], levels: &[u32], count: usize) -> bool
+    requires { All (λ p. p < length levels.now) places.now }
+    ensures { IsTrue result ↔ ((level : ℕ) → level < count → IsLevelOfOne levels.now places.now level) }
+{
+    for level in 0..count {
+        if !has_level(places, levels, level) {
+            return false;
+        }
+    }
+    true
+}
+
+/// Whether the level is that of a term at one of the places.
+fn has_level(places: &[u32], levels: &[u32], level: usize) -> bool
+    requires { All (λ p. p < length levels.now) places.now }
+    ensures { IsTrue result ↔ IsLevelOfOne levels.now places.now level }
+{
+    for place in places {
+        if levels[*place as usize] as usize == level {
+            return true;
+        }
+    }
+    false
 }
 
 /// Adds the key that the match has at the places, where all of it are individuals whose numbers are below `count` and the

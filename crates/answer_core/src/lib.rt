@@ -4,6 +4,7 @@
 mod answer_list;
 mod bound;
 mod fixed;
+mod key_store;
 pub mod laws;
 mod number_keys;
 mod ranks;

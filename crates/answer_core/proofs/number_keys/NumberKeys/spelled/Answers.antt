@@ -1,15 +1,16 @@
-use Rattle.std.proofs.Common.{◌≡◌, ◌↔◌, ℕ, List, All, Contains, map, subst}
+use Rattle.std.proofs.Common.{◌≡◌, ◌↔◌, ℕ, List, All, Contains, map, subst, ◌∙◌}
 use Rattle.answer_core.specs.Ranks.{HasRank, ranks_of, rows_of}
 use Rattle.answer_core.proofs.KeyOrderLemmas.{all_ranked, rows_within, spelled_result}
 use Rattle.answer_core.proofs.number_keys.NumberKeys.spelled.Goals as goal
 
 pub spelled_rows-requires : goal.spelled_rows-requires
 spelled_rows-requires c =
+    let keys_are : rows_of c.in_ok-keys.keys.items ≡ c.args.self = c.in_ok-keys.ensures ∙ c.self.view_is in
     let all : All (All (HasRank c.in_ok-order.order.items c.in_ok-ranks.ranks.items)) c.args.self =
     all_ranked c.in_ok-marks.marks.items c.in_ok-order.order.items c.in_ok-ranks.ranks.items c.args.self
-    (rw (c.as_slice.ensures.value, c.in_ok-keys.ensures) at c.in_ok-marks.ensures.marked)
+    (rw (c.as_slice.ensures.value, keys_are) at c.in_ok-marks.ensures.marked)
     (rw c.as_slice-2.ensures.value at c.in_ok-order.ensures.marked) (rw c.as_slice-3.ensures.value at c.in_ok-ranks.ensures.ranked) in
-    let is : rows_of c.in_ok-rows.rows.items ≡ map (ranks_of c.in_ok-ranks.ranks.items) c.args.self = rw (c.as_slice-4.ensures.value, c.in_ok-keys.ensures) at c.in_ok-rows.ensures in
+    let is : rows_of c.in_ok-rows.rows.items ≡ map (ranks_of c.in_ok-ranks.ranks.items) c.args.self = rw (c.as_slice-4.ensures.value, keys_are) at c.in_ok-rows.ensures in
     let same : (row : List ℕ) → Contains (rows_of c.put_in_order.new.rows.items) row ↔ Contains (map (ranks_of c.in_ok-ranks.ranks.items) c.args.self) row =
     λ row. subst (λ (rows : List (List ℕ)). Contains (rows_of c.put_in_order.new.rows.items) row ↔ Contains rows row) is (c.put_in_order.ensures.same row) in
     rw (c.as_slice-6.ensures.value, c.as_slice-5.ensures.value)
@@ -17,11 +18,12 @@ spelled_rows-requires c =
 
 pub returns : goal.returns
 returns c =
+    let keys_are : rows_of c.in_ok-keys.keys.items ≡ c.args.self = c.in_ok-keys.ensures ∙ c.self.view_is in
     let all : All (All (HasRank c.in_ok-order.order.items c.in_ok-ranks.ranks.items)) c.args.self =
     all_ranked c.in_ok-marks.marks.items c.in_ok-order.order.items c.in_ok-ranks.ranks.items c.args.self
-    (rw (c.as_slice.ensures.value, c.in_ok-keys.ensures) at c.in_ok-marks.ensures.marked)
+    (rw (c.as_slice.ensures.value, keys_are) at c.in_ok-marks.ensures.marked)
     (rw c.as_slice-2.ensures.value at c.in_ok-order.ensures.marked) (rw c.as_slice-3.ensures.value at c.in_ok-ranks.ensures.ranked) in
-    let is : rows_of c.in_ok-rows.rows.items ≡ map (ranks_of c.in_ok-ranks.ranks.items) c.args.self = rw (c.as_slice-4.ensures.value, c.in_ok-keys.ensures) at c.in_ok-rows.ensures in
+    let is : rows_of c.in_ok-rows.rows.items ≡ map (ranks_of c.in_ok-ranks.ranks.items) c.args.self = rw (c.as_slice-4.ensures.value, keys_are) at c.in_ok-rows.ensures in
     let same : (row : List ℕ) → Contains (rows_of c.put_in_order.new.rows.items) row ↔ Contains (map (ranks_of c.in_ok-ranks.ranks.items) c.args.self) row =
     λ row. subst (λ (rows : List (List ℕ)). Contains (rows_of c.put_in_order.new.rows.items) row ↔ Contains rows row) is (c.put_in_order.ensures.same row) in
     spelled_result c.args.individuals.now c.in_ok-order.order.items c.in_ok-ranks.ranks.items c.len.ensures.distinct c.in_ok-order.ensures.in_order c.args.self all (rows_of c.put_in_order.new.rows.items) same

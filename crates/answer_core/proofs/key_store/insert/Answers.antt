@@ -5,7 +5,7 @@ use Rattle.std.proofs.lemmas.Cmp.{nat_list_cmp_total}
 use Rattle.dl_base.proofs.RowLemmas.{name_same}
 use Rattle.answer_core.proofs.KeySets.{inserted, looked_up, known_key}
 use Rattle.answer_core.specs.Ranks.{rows_of}
-use Rattle.answer_core.proofs.number_keys.insert.Goals as goal
+use Rattle.answer_core.proofs.key_store.insert.Goals as goal
 
 pub returns-then-contains-clause-ok : goal.returns-then-contains-clause-ok
 returns-then-contains-clause-ok c =
