@@ -25,7 +25,8 @@ use tree_witness::TreeWitnesses;
 ///
 /// It takes memory for the keys, and for a mark and a rank of each individual, by which keys are put in order; and none for
 /// further matches of a key. Matches are sought by the plan. Behind one that lifts the search goes on behind all that agree
-/// with it up to the last of the answer terms in the plan's order.
+/// with it up to the last of the answer terms in the plan's order. Keys need no set where the answer terms are the first ones
+/// in this order.
 pub fn answers<T: Tables>(
     alloc: Global,
     t: &T,

@@ -7,8 +7,8 @@ use std::alloc::{AllocError, Global};
 use std::collections::BTreeSet;
 use std::marker::Model;
 
-/// Keys by number: in a list where equal ones are added one after another, so that none needs to be looked for, and else in a
-/// set. Contracts see them as one list behind the other.
+/// Keys by number: in a list, if equal ones are added one after another, and else in a set. Contracts see them as one list,
+/// those of the set last.
 #[derive(Drop)]
 pub(crate) struct KeyStore {
     listed: Vec<Vec<u32>>,

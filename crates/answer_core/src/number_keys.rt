@@ -31,7 +31,8 @@ impl Model for NumberKeys {
 }
 
 impl NumberKeys {
-    /// No keys. It takes no memory. They need no set where `grouped` says that equal ones are added one after another.
+    /// No keys. It takes no memory. `grouped` says that equal keys will be added one after another, so that no set is needed to
+    /// leave repeats out. Where it is wrong they take memory, until the keys are spelled.
     pub(crate) fn new(alloc: Global, grouped: bool) -> NumberKeys
         ensures { result ≡ [] }
     {
@@ -42,7 +43,7 @@ impl NumberKeys {
         }
     }
 
-    /// Whether the key is the one that was added last. So it is there, with no search for it.
+    /// Whether the key is the one that was added last. Then it is there, and needn't be looked for.
     pub(crate) fn is_last(&self, key: &[u32]) -> bool
         ensures { OnTrue result (Contains self.now key.now) }
     {
