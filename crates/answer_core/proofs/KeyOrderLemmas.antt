@@ -1,8 +1,11 @@
 -- Keys by rank spell the keys by name, in the same order.
-use Rattle.std.proofs.Common.{◌≡◌, ◌≢◌, ◌↔◌, ◌<◌, ℕ, List, [], ◌∷◌, map, All, AllPairs, Contains, Some, slice_get, slice_index, get_or, length, Result, Ok, Err, IfOk, Bool, true, false, option_map, refl, sym, ◌∙◌, ap, subst, arith}
+use Rattle.std.proofs.Common.{◌≡◌, ◌≢◌, ◌↔◌, ◌<◌, ◌≤◌, ℕ, List, [], ◌∷◌, map, All, AllPairs, Contains, Some, slice_get, slice_index, get_or, length, Result, Ok, Err, IfOk, Bool, true, false, option_map, refl, sym, ◌∙◌, ap, subst, arith}
 use Rattle.std.specs.Cmp.{IsTotalOrder}
 use Rattle.std.specs.Cmp.Lexicographic.{slice_cmp}
-use Rattle.std.specs.List.{AllByRecursion, AllZip}
+use Rattle.std.specs.List.{AllByRecursion, AllZip, range_with_len}
+use Rattle.std.proofs.lemmas.List.FromFn.{length-range_with_len}
+use Rattle.dl_base.proofs.InOrder.{rising_distinct}
+use Rattle.join_plan.proofs.LawLemmas.{numbered}
 use Rattle.std.specs.List.Sorted.{IsSorted, IsStrictlySortedBy}
 use Rattle.std.specs.Ordering.{is_lt, nat_cmp, ordering_reverse, ordering_then}
 use Rattle.std.specs.declared.cmp.Ordering.{Ordering}
@@ -13,11 +16,11 @@ use Rattle.std.proofs.lemmas.List.Sorted.{ranks_by, sorted_far}
 use Rattle.std.proofs.lemmas.Option.{get_or_from_slice_get, slice_get-map, slice_get_within}
 use Rattle.dl_base.specs.Answers.{key_cmp}
 use Rattle.dl_base.specs.Rows.{name_cmp}
-use Rattle.dl_base.proofs.PlaceLemmas.{map_contains, map_from, member_at, one_place, some_same, zip_left, zip_right}
-use Rattle.dl_base.proofs.RisingLemmas.{contains_first, contains_later}
+use Rattle.dl_base.proofs.PlaceLemmas.{map_contains, map_from, member_at, no_more, one_place, some_same, zip_left, zip_right}
+use Rattle.dl_base.proofs.RisingLemmas.{contains_first, contains_later, nat_same}
 use Rattle.dl_base.proofs.RowLemmas.{name_same}
 use Rattle.answer_core.specs.Found.{AreSpelled, Spells}
-use Rattle.answer_core.specs.Ranks.{AreInOrder, HasNumber, HasRank, IsMarked, IsNamedIn, names_by_rank, ranks_of}
+use Rattle.answer_core.specs.Ranks.{AreInOrder, HasNumber, HasRank, IsInRow, IsNamedIn, names_by_rank, ranks_of}
 use Rattle.answer_core.specs.declared.ranks.Ranked.{Ranked}
 use Rattle.answer_core.proofs.SpellLemmas.{spells_same}
 
@@ -199,8 +202,23 @@ module _ (names : List (List ℕ)) (order : List Ranked) (ranks : List ℕ) (dis
     spelled_result (Ok keys) rising zip = are_spelled keys rising zip
     spelled_result (Err e) rising zip = tt
 
--- marked numbers have ranks
-pub all_ranked : (marks : List Bool) (order : List Ranked) (ranks : List ℕ) (found : List (List ℕ)) → All (All (IsMarked marks)) found → ((n : ℕ) → IsMarked marks n → HasNumber order n)
+-- the numbers of keys have ranks
+pub all_ranked : (numbers : List ℕ) (order : List Ranked) (ranks : List ℕ) (found : List (List ℕ)) → ((n : ℕ) → Contains numbers n ↔ IsInRow found n) → ((n : ℕ) → Contains numbers n → HasNumber order n)
     → ((n : ℕ) → HasNumber order n → HasRank order ranks n) → All (All (HasRank order ranks)) found
-all_ranked marks order ranks found marked numbered ranked k d below i e within =
-    let n = get_or (get_or found k d) i e in ranked n (numbered n (marked k d below i e within))
+all_ranked numbers order ranks found each numbered ranked k d below i e within =
+    let row = get_or found k d in
+    let n = get_or row i e in
+    ranked n (numbered n ((each n).1 (row, Contains-get_or found k d below, Contains-get_or row i e within)))
+
+-- they are numbers of individuals, and there are no more of them than of these
+pub numbers_within : (count : ℕ) (numbers : List ℕ) (found : List (List ℕ)) → ((n : ℕ) → Contains numbers n ↔ IsInRow found n) → All (All (λ n. n < count)) found → All (λ n. n < count) numbers
+numbers_within count numbers found each all k d below =
+    let n = get_or numbers k d in
+    let row = (each n).0 (Contains-get_or numbers k d below) in
+    All-contains (λ (m : ℕ). m < count) row.0 n (All-contains (All (λ (m : ℕ). m < count)) found row.0 all row.1) row.2
+
+pub numbers_few : (count : ℕ) (numbers : List ℕ) → IsStrictlySortedBy nat_cmp numbers → All (λ n. n < count) numbers → length numbers ≤ count
+numbers_few count numbers rising within =
+    let most = no_more numbers (range_with_len 0 count) (rising_distinct nat_cmp nat_cmp_total nat_same numbers rising)
+    (λ n c. numbered count n (All-contains (λ (m : ℕ). m < count) numbers n within c)) in
+    omega (arith, most, length-range_with_len 0 count)

@@ -1,12 +1,12 @@
 -- Lists that go together, place by place.
-use Rattle.std.proofs.Common.{◌≡◌, ℕ, zero, suc, ◌+◌, ◌<◌, List, [], ◌∷◌, ◌++◌, map, length, take, drop, set, get_or, option_map, Vec, Global, All, Contains, slice_get, Some, refl, sym, ◌∙◌, ap, subst, arith, add-one}
+use Rattle.std.proofs.Common.{◌≡◌, ◌↔◌, inl, inr, ℕ, zero, suc, ◌+◌, ◌<◌, List, [], ◌∷◌, ◌++◌, map, length, take, drop, set, get_or, option_map, Vec, Global, All, Contains, slice_get, Some, refl, sym, ◌∙◌, ap, subst, arith, add-one}
 use Rattle.std.specs.List.{AllZip}
 use Rattle.std.proofs.Math.Seq.{take-append_seam}
-use Rattle.std.proofs.lemmas.List.{append_assoc, length-map, map-append}
-use Rattle.std.proofs.lemmas.List.Elements.{All-contains}
+use Rattle.std.proofs.lemmas.List.{append_assoc, length-map, map-append, take_more}
+use Rattle.std.proofs.lemmas.List.Elements.{All-contains, Contains-append_cases, Contains-append_left, Contains-append_right, Contains-push, Contains-push_cases}
 use Rattle.std.proofs.lemmas.Option.{get_or_from_slice_get, slice_get-map, slice_get_read}
 use Rattle.dl_base.proofs.PlaceLemmas.{member_at, place_of, some_same, something_at}
-use Rattle.answer_core.specs.Ranks.{rows_of}
+use Rattle.answer_core.specs.Ranks.{IsInRow, rows_of}
 
 -- an item is at some place
 pub at_place : {X : Type 0} (xs : List X) (x : X) → Contains xs x → (k : ℕ) × (k < length xs) × (slice_get xs k ≡ Some x)
@@ -74,6 +74,26 @@ rows_all P rows each k d below =
     let row = something_at rows k within in
     let at : slice_get (rows_of rows) k ≡ Some row.0.items = slice_get-map (λ (r : Vec ℕ Global). r.items) rows k ∙ ap (option_map (λ (r : Vec ℕ Global). r.items)) row.1 in
     subst P (sym (get_or_from_slice_get (rows_of rows) k row.0.items d at)) (each k row.0 within row.1)
+
+-- the numbers of one more list
+pub in_rows_more : (keys : List (Vec ℕ Global)) (i : ℕ) (key : Vec ℕ Global) (numbers : List ℕ) → i < length keys → key ≡ get_or keys i key → ((n : ℕ) → Contains numbers n ↔ IsInRow (rows_of (take i keys)) n)
+    → (n : ℕ) → Contains (numbers ++ key.items) n ↔ IsInRow (rows_of (take (i + 1) keys)) n
+in_rows_more keys i key numbers below is each n = (to, from)
+  where
+    more : rows_of (take (i + 1) keys) ≡ rows_of (take i keys) ++ key.items ∷ []
+    more = ap rows_of (take_more keys i key below) ∙ ap (λ (k : Vec ℕ Global). rows_of (take i keys ++ k ∷ [])) (sym is) ∙ map-append (λ (r : Vec ℕ Global). r.items) (take i keys) (key ∷ [])
+
+    to : Contains (numbers ++ key.items) n → IsInRow (rows_of (take (i + 1) keys)) n
+    to there = subst (λ (rows : List (List ℕ)). IsInRow rows n) (sym more) (elim (Contains-append_cases numbers key.items n there) [
+      | inl old ↦ (let row = (each n).0 old in (row.0, Contains-append_left (rows_of (take i keys)) (key.items ∷ []) row.0 row.1, row.2))
+      | inr new ↦ (key.items, Contains-push (rows_of (take i keys)) key.items, new)
+    ])
+
+    from : IsInRow (rows_of (take (i + 1) keys)) n → Contains (numbers ++ key.items) n
+    from row = elim (Contains-push_cases (rows_of (take i keys)) key.items row.0 (subst (λ (rows : List (List ℕ)). Contains rows row.0) more row.1)) [
+      | inl old ↦ Contains-append_left numbers key.items n ((each n).1 (row.0, old, row.2))
+      | inr same ↦ Contains-append_right numbers key.items n (subst (λ (r : List ℕ). Contains r n) (sym same) row.2)
+    ]
 
 -- one more list is mapped and moved
 pub row_moved : (f : List ℕ → List ℕ) (rows new left rest : List (Vec ℕ Global)) (key moved : Vec ℕ Global) (all : List (List ℕ)) → rows_of rows ++ map f (rows_of left) ≡ all → left ≡ key ∷ rest

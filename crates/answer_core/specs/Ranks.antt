@@ -1,13 +1,13 @@
 -- Individuals by the order of their names, and keys by the ranks that these have in it.
-use Rattle.std.specs.Prelude.{◌≡◌, ◌<◌, ℕ, Bool, true, Vec, List, All, Contains, Some, slice_get, slice_index, map}
+use Rattle.std.specs.Prelude.{◌≡◌, ◌<◌, ℕ, Vec, List, All, Contains, Some, slice_get, slice_index, map}
 use Rattle.std.specs.declared.cmp.Ordering.TheVariants.{Less}
 use Rattle.std.specs.declared.alloc.Global.{Global}
 use Rattle.dl_base.specs.Rows.{name_cmp}
 use Rattle.answer_core.specs.declared.ranks.Ranked.{Ranked}
 
--- the number is marked
-abbrev pub IsMarked : List Bool → ℕ → Type 0
-IsMarked marks n = slice_get marks n ≡ Some true
+-- one of the rows has the number
+abbrev pub IsInRow : List (List ℕ) → ℕ → Type 0
+IsInRow rows n = (row : List ℕ) × Contains rows row × Contains row n
 
 -- the individual has the name that the list has at its number
 abbrev pub IsNamedIn : List (List ℕ) → Ranked → Type 0

@@ -23,10 +23,10 @@ use tree_witness::TreeWitnesses;
 /// The certain answers, in order, each once: the keys of the matches in completed tables that lift, have individuals of
 /// the book at the answer places, and have each name of the query on its own individual.
 ///
-/// It takes memory for the keys, and for a mark and a rank of each individual, by which keys are put in order; and none for
-/// further matches of a key. Matches are sought by the plan. Behind one that lifts the search goes on behind all that agree
-/// with it up to the last of the answer terms in the plan's order. Keys need no set where the answer terms are the first ones
-/// in this order.
+/// It takes memory for the keys, and for a rank of each individual, by which keys are put in order; and none for further
+/// matches of a key. Matches are sought by the plan. Behind one that lifts the search goes on behind all that agree with it up
+/// to the last of the answer terms in the plan's order. Keys need no set where the answer terms are the first ones in this
+/// order.
 pub fn answers<T: Tables>(
     alloc: Global,
     t: &T,

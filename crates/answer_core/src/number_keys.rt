@@ -5,7 +5,7 @@ ghost use Rattle.answer_core.specs.Found.{AddsKey, AreSpelled};
 
 use crate::key_store::KeyStore;
 use crate::ranks::{by_name, ranks};
-use crate::rows::{marks, put_in_order, ranked, spelled_rows};
+use crate::rows::{numbers_in, put_in_order, ranked, spelled_rows};
 use dl_base::{Keys, NameBook};
 use std::alloc::{AllocError, Global};
 use std::marker::Model;
@@ -70,8 +70,8 @@ impl NumberKeys {
         ensures { IfOk result (AreSpelled individuals.now self) }
     {
         let keys = self.keys.into_rows()?;
-        let marks = marks(alloc, keys.as_slice(), individuals.len())?;
-        let order = by_name(alloc, individuals, marks.as_slice())?;
+        let numbers = numbers_in(alloc, keys.as_slice())?;
+        let order = by_name(alloc, individuals, numbers.as_slice())?;
         let ranks = ranks(alloc, order.as_slice(), individuals.len())?;
         let mut rows = ranked(alloc, keys, ranks.as_slice())?;
         put_in_order(&mut rows);

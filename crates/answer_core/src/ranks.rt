@@ -1,6 +1,6 @@
 //! Individuals by the order of their names.
-ghost use Rattle.std.specs.Prelude.{◌≡◌, ◌<◌, ◌≤◌, ◌^◌, ℕ, All, IfOk, length};
-ghost use Rattle.answer_core.specs.Ranks.{AreInOrder, HasNumber, HasRank, IsMarked, ranks_of};
+ghost use Rattle.std.specs.Prelude.{◌≡◌, ◌<◌, ◌^◌, ℕ, All, Contains, IfOk, length};
+ghost use Rattle.answer_core.specs.Ranks.{AreInOrder, HasNumber, HasRank, ranks_of};
 
 use dl_base::{Name, NameBook};
 use std::alloc::{AllocError, Global};
@@ -12,34 +12,24 @@ pub(crate) struct Ranked<'a> {
     pub(crate) number: u32,
 }
 
-/// Marks the numbers.
-pub(crate) fn mark(numbers: &[u32], marks: &mut [bool])
-    requires { All (λ n. n < length marks.old) numbers.now }
-    ensures marked { All (IsMarked marks.new) numbers.now }
-    ensures kept { (n : ℕ) → IsMarked marks.old n → IsMarked marks.new n }
-{
-    for number in numbers {
-        marks[*number as usize] = true;
-    }
-}
-
-/// The marked individuals in the order of their names.
+/// The individuals of these numbers in the order of their names.
 pub(crate) fn by_name<'a>(
     alloc: Global,
     individuals: &'a NameBook,
-    marks: &[bool],
+    numbers: &[u32],
 ) -> Result<Vec<Ranked<'a>>, AllocError>
-    requires { length marks.now ≡ length individuals.now }
+    requires { All (λ n. n < length individuals.now) numbers.now }
     ensures in_order { IfOk result (λ order. AreInOrder individuals.now order.items) }
-    ensures marked { IfOk result (λ order. (n : ℕ) → IsMarked marks.now n → HasNumber order.items n) }
-    ensures few { IfOk result (λ order. length order.items ≤ length individuals.now) }
+    ensures each { IfOk result (λ order. (n : ℕ) → Contains numbers.now n → HasNumber order.items n) }
+    ensures count { IfOk result (λ order. length order.items ≡ length numbers.now) }
 {
-    let mut order = Vec::new(alloc);
-    for number in 0..individuals.len() as u32 {
-        if marks[number as usize] {
-            let name = individuals.name(number);
-            order.push(Ranked { name, number })?;
-        }
+    let mut order = Vec::with_capacity(alloc, numbers.len())?;
+    for number in numbers {
+        let name = individuals.name(*number);
+        order.push(Ranked {
+            name,
+            number: *number,
+        })?;
     }
     order.sort_unstable();
     Ok(order)

@@ -5,23 +5,24 @@ ghost use Rattle.std.specs.List.{AllZip};
 ghost use Rattle.std.specs.List.Sorted.{IsStrictlySortedBy};
 ghost use Rattle.std.specs.Ordering.{nat_cmp};
 ghost use Rattle.answer_core.specs.Found.{Spells};
-ghost use Rattle.answer_core.specs.Ranks.{IsMarked, names_by_rank, ranks_of, rows_of};
+ghost use Rattle.answer_core.specs.Ranks.{IsInRow, names_by_rank, ranks_of, rows_of};
 
-use crate::ranks::{Ranked, mark, put_ranks};
+use crate::ranks::{Ranked, put_ranks};
 use dl_base::{Items, Key, Keys};
 use std::alloc::{AllocError, Global};
 
-/// For each number below `count`, whether a key has it.
-pub(crate) fn marks(alloc: Global, keys: &[Vec<u32>], count: usize) -> Result<Vec<bool>, AllocError>
-    requires { All (All (λ n. n < count)) (rows_of keys.now) }
-    ensures len { IfOk result (λ marks. length marks.items ≡ count) }
-    ensures marked { IfOk result (λ marks. All (All (IsMarked marks.items)) (rows_of keys.now)) }
+/// The numbers that are in keys, each once, in rising order.
+pub(crate) fn numbers_in(alloc: Global, keys: &[Vec<u32>]) -> Result<Vec<u32>, AllocError>
+    ensures rising { IfOk result (λ numbers. IsStrictlySortedBy nat_cmp numbers.items) }
+    ensures each { IfOk result (λ numbers. (n : ℕ) → Contains numbers.items n ↔ IsInRow (rows_of keys.now) n) }
 {
-    let mut marks = vec![in alloc; false; count]?;
+    let mut numbers = Vec::new(alloc);
     for key in keys {
-        mark(key.as_slice(), marks.as_mut_slice());
+        numbers.extend_from_slice(key.as_slice())?;
     }
-    Ok(marks)
+    numbers.sort_unstable();
+    numbers.dedup();
+    Ok(numbers)
 }
 
 /// The keys with ranks in place of numbers.
