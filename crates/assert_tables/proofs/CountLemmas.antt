@@ -1,11 +1,12 @@
 -- How many rows and individuals there are.
-use Rattle.std.proofs.Common.{◌≡◌, ◌≢◌, ◌↔◌, ℕ, zero, suc, ◌+◌, ◌*◌, ◌≤◌, ◌⊎◌, inl, inr, List, [], ◌∷◌, length, Contains, refl, sym, ◌∙◌, ap, subst, arith, zero-add}
+use Rattle.std.proofs.Common.{◌≡◌, ◌≢◌, ◌↔◌, ℕ, zero, suc, ◌+◌, ◌*◌, ◌≤◌, ◌⊎◌, inl, inr, List, [], ◌∷◌, length, All, Contains, refl, sym, ◌∙◌, ap, subst, arith, zero-add}
 use Rattle.std.specs.BTreeSet.{insert_key}
 use Rattle.std.specs.declared.cmp.Ordering.{Ordering}
 use Rattle.std.specs.declared.cmp.Ordering.TheVariants.{Less, Equal, Greater}
 use Rattle.std.specs.Ordering.{nat_cmp}
 use Rattle.std.specs.List.Sorted.{IsStrictlySortedBy}
 use Rattle.std.proofs.lemmas.Cmp.{nat_cmp_total, tied_itself}
+use Rattle.std.proofs.lemmas.List.Elements.{All-contains, Contains-get_or}
 use Rattle.dl_base.specs.declared.row.Row.{Row}
 use Rattle.dl_base.proofs.RisingLemmas.{Adds, nat_same, same_rising, contains_cases, contains_first, contains_later}
 use Rattle.dl_base.proofs.RowLemmas.{none_rising, numbered_total, numbered_same}
@@ -98,6 +99,13 @@ gains_one r old new rising gains absent =
 pub gains_none : (r : Row) (old new : List Row) → AreRisingRows old → Gains r old new → Contains old r → new ≡ old
 gains_none r old new rising gains there =
     gains_list r old new rising gains ∙ insert_again numbered_row_cmp numbered_total numbered_same r old rising there
+
+-- what holds of all rows and of this one holds of all then
+pub all_gain : (P : Row → Type 0) (r : Row) (old new : List Row) → Gains r old new → P r → All P old → All P new
+all_gain P r old new gains fits all k d below = elim ((gains.each _).0 (Contains-get_or new k d below)) [
+  | inl e ↦ subst P (sym e) fits
+  | inr before ↦ All-contains P old _ all before
+]
 
 -- what lost a row gains it again
 loses_gains : (r : Row) (old new : List Row) → AreRisingRows old → Loses r old new → Contains old r → Gains r new old

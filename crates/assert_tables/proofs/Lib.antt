@@ -3,3 +3,5 @@ pub mod MentionLemmas
 pub mod CountLemmas
 pub mod SearchLemmas
 pub mod LeftLemmas
+pub mod NamingLemmas
+pub mod GatheredLemmas

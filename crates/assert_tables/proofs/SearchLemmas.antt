@@ -59,7 +59,7 @@ least_first s start (m ∷ rest) range = (
 -- ---- the next row of an individual
 
 -- of one individual mentions are in the order of rows
-by_rows : (a : ℕ) (r q : Row) → mention_cmp (mention a r) (mention a q) ≡ numbered_row_cmp r q
+pub by_rows : (a : ℕ) (r q : Row) → mention_cmp (mention a r) (mention a q) ≡ numbered_row_cmp r q
 by_rows a r q = ap (λ (o : Ordering). ordering_then o (numbered_row_cmp r q)) (tied_itself nat_cmp_total a)
 
 then_not_greater : (r s : Ordering) → ordering_then r s ≢ Greater → r ≢ Greater
@@ -67,20 +67,20 @@ then_not_greater Less s other e = absurd cc
 then_not_greater Equal s other e = absurd cc
 then_not_greater Greater s other e = other refl
 
-then_not_less : (r s : Ordering) → ordering_then r s ≡ Less → r ≢ Greater
+pub then_not_less : (r s : Ordering) → ordering_then r s ≡ Less → r ≢ Greater
 then_not_less r s less e = absurd (let f : ordering_then Greater s ≡ Less = subst (λ (o : Ordering). ordering_then o s ≡ Less) e less in cc)
 
 nat_above : (x y : ℕ) → y < x → nat_cmp x y ≡ Greater
 nat_above x y lt = grind (arith, nat_tests)
 
-at_most : (x y : ℕ) → nat_cmp x y ≢ Greater → x ≤ y
+pub at_most : (x y : ℕ) → nat_cmp x y ≢ Greater → x ≤ y
 at_most x y other = by (cases_lt y x)
   where
     by : (y < x) ⊎ (x ≤ y) → x ≤ y
     by (inl lt) = absurd (other (nat_above x y lt))
     by (inr le) = le
 
-least_row : (q : Row) → numbered_row_cmp (row.Concept 0 0) q ≢ Greater
+pub least_row : (q : Row) → numbered_row_cmp (row.Concept 0 0) q ≢ Greater
 least_row (row.Concept d b) = by (nat_cmp 0 d) refl
   where
     none_below : (n : ℕ) → nat_cmp 0 n ≢ Greater
@@ -101,7 +101,7 @@ from_behind a None q from = tt
 from_behind a (Some r) q from = sym (by_rows a r q) ∙ from
 
 -- a search for an individual's rows begins at no lower individual
-start_above : (a : ℕ) (after : Option Row) (m : Mention) → IsFrom (start_at a after) m → a ≤ m.individual
+pub start_above : (a : ℕ) (after : Option Row) (m : Mention) → IsFrom (start_at a after) m → a ≤ m.individual
 start_above a None m from = at_most a m.individual (then_not_greater (nat_cmp a m.individual) (numbered_row_cmp (row.Concept 0 0) m.row) from)
 start_above a (Some r) m from = at_most a m.individual (then_not_less (nat_cmp a m.individual) (numbered_row_cmp r m.row) from)
 

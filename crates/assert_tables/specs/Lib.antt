@@ -1,2 +1,4 @@
 pub mod Rows
 pub mod Mentions
+pub mod Naming
+pub mod Gathered

@@ -1,8 +1,13 @@
 //! Asserted rows and how many there are.
 ghost use Rattle.std.specs.Prelude.{◌≡◌, ◌↔◌, [], IsTrue, IfOk, OnOk, OnErr, MatchBool, Contains, length};
+ghost use Rattle.assert_tables.specs.Gathered.{AreNamedBy};
+ghost use Rattle.assert_tables.specs.Naming.{AreRowsNaming};
+ghost use Rattle.dl_base.specs.declared.row.Row.{Row as AnyRow};
 ghost use Rattle.assert_tables.specs.Rows.{AreRisingRows, Gains, IsCountOfNew, IsNewcomer, IsNextIndividual, IsNextOf, Loses, individuals_of};
 
-use crate::row_set::RowSet;
+use crate::naming::RowsNaming;
+use crate::order::in_order;
+use crate::row_set::{RowSet, first_mention, last_mention};
 use dl_base::Row;
 use std::alloc::{AllocError, Global};
 use std::marker::Model;
@@ -38,6 +43,21 @@ impl Assertions {
             rows: 0,
             individuals: 0,
         }
+    }
+
+    /// These rows, which may come in any order and repeatedly. It costs no more than to sort them.
+    pub fn of_rows(alloc: Global, rows: Vec<Row>) -> Result<Assertions, AllocError>
+        ensures rising { IfOk result AreRisingRows }
+        ensures rows { IfOk result (λ a. (r : AnyRow) → Contains a r ↔ Contains rows.items r) }
+    {
+        let rows = in_order(rows);
+        let individuals = in_order(individuals(alloc, rows.as_slice())?).len() as u64;
+        let set = RowSet::of_rows(alloc, rows.as_slice())?;
+        Ok(Assertions {
+            set,
+            rows: rows.len() as u64,
+            individuals,
+        })
     }
 
     /// Adds the row, and answers whether it is new. After `AllocError` the rows are as before.
@@ -82,6 +102,13 @@ impl Assertions {
         self.set.next_of(individual, after)
     }
 
+    /// The rows that name the individual, from the least on.
+    pub fn rows_naming(&self, individual: u32) -> RowsNaming<'_>
+        ensures { AreRowsNaming self.now individual result }
+    {
+        self.set.rows_naming(individual)
+    }
+
     /// The least individual above `after`, or of all, that a row names; none where there is none.
     pub fn next_individual(&self, after: Option<u32>) -> Option<u32>
         ensures { IsNextIndividual self.now after result }
@@ -103,6 +130,18 @@ impl Assertions {
     {
         self.individuals
     }
+}
+
+/// The individuals that the rows name, in any order and repeatedly.
+fn individuals(alloc: Global, rows: &[Row]) -> Result<Vec<u32>, AllocError>
+    ensures { IfOk result (λ names. AreNamedBy rows.now names.items) }
+{
+    let mut individuals = Vec::with_capacity(alloc, rows.len().saturating_mul(2))?;
+    for row in rows {
+        individuals.push(first_mention(*row).individual)?;
+        individuals.push(last_mention(*row).individual)?;
+    }
+    Ok(individuals)
 }
 
 /// How many of the individuals that the row names are named by no row of the set.

@@ -2,8 +2,14 @@
 #![tactic(auto)]
 
 mod assertions;
+mod gathered;
+mod naming;
+mod order;
 mod row_set;
 #[cfg(test)]
 mod tests;
 
 pub use assertions::Assertions;
+pub use gathered::GatheredRows;
+pub use naming::RowsNaming;
+pub use order::in_order;

@@ -1,9 +1,14 @@
 //! A set of rows that is searched by row and by individual.
 ghost use Rattle.std.specs.Prelude.{◌≡◌, ◌^◌, ◌<◌, ◌≤◌, ◌↔◌, [], length, IsTrue, IsSomeAnd, IfSome, IfNone, IfOk, OnOk, OnErr, MatchBool, Contains};
 ghost use Rattle.std.specs.Bool.{OnTrue};
-ghost use Rattle.assert_tables.specs.Rows.{Gains, IsNextIndividual, IsNextOf, Loses, first_of, last_of};
+ghost use Rattle.std.specs.BTreeSet.{IsFromIterResult};
+ghost use Rattle.assert_tables.specs.Rows.{AreRisingRows, Gains, IsNextIndividual, IsNextOf, Loses, first_of, last_of};
+ghost use Rattle.assert_tables.specs.Gathered.{AreBeside};
 ghost use Rattle.assert_tables.specs.Mentions.{IsLeastFrom, IsLow, start_at};
+ghost use Rattle.assert_tables.specs.Naming.{AreRowsNaming};
+ghost use Rattle.dl_base.specs.declared.row.Row.{Row as AnyRow};
 
+use crate::naming::RowsNaming;
 use dl_base::Row;
 use std::alloc::{AllocError, Global};
 use std::collections::BTreeSet;
@@ -12,9 +17,9 @@ use std::ops::Bound;
 
 /// A row beside an individual that it names.
 #[derive(Clone, Copy, Debug, PartialEq, Eq, PartialOrd, Ord)]
-struct Mention {
-    individual: u32,
-    row: Row,
+pub(crate) struct Mention {
+    pub(crate) individual: u32,
+    pub(crate) row: Row,
 }
 
 /// The row that comes before all others.
@@ -51,6 +56,18 @@ impl RowSet {
         RowSet {
             mentions: BTreeSet::new(alloc),
         }
+    }
+
+    /// These rows.
+    pub fn of_rows(alloc: Global, rows: &[Row]) -> Result<RowSet, AllocError>
+        ensures rising { IfOk result AreRisingRows }
+        ensures rows { IfOk result (λ set. (r : AnyRow) → Contains set r ↔ Contains rows.now r) }
+    {
+        let mut mentions = mentions_of(alloc, rows)?;
+        mentions.sort_unstable();
+        Ok(RowSet {
+            mentions: set_of(alloc, mentions)?,
+        })
     }
 
     /// Whether the row is there.
@@ -109,6 +126,14 @@ impl RowSet {
         }
     }
 
+    /// The rows that name the individual, from the least on.
+    pub fn rows_naming(&self, individual: u32) -> RowsNaming<'_>
+        ensures { AreRowsNaming self.now individual result }
+    {
+        let start = start_of(individual, None);
+        RowsNaming::new(self.mentions.range((start, Bound::Unbounded)), individual)
+    }
+
     /// The least individual above `after`, or of all, that a row names.
     pub fn next_individual(&self, after: Option<u32>) -> Option<u32>
         ensures { IsNextIndividual self.now after result }
@@ -118,6 +143,25 @@ impl RowSet {
         let next = next_from(&self.mentions, start_of(least, None))?;
         Some(next.individual)
     }
+}
+
+/// The set of these keys.
+fn set_of<K: Ord + Drop>(alloc: Global, keys: Vec<K>) -> Result<BTreeSet<K>, AllocError>
+    ensures { IfOk result (IsFromIterResult K.cmp keys.items) }
+{
+    keys.into_iter().collect(alloc)
+}
+
+/// Each row beside each individual that it names.
+fn mentions_of(alloc: Global, rows: &[Row]) -> Result<Vec<Mention>, AllocError>
+    ensures { IfOk result (λ mentions. AreBeside rows.now mentions.items) }
+{
+    let mut mentions = Vec::with_capacity(alloc, rows.len().saturating_mul(2))?;
+    for row in rows {
+        mentions.push(first_mention(*row))?;
+        mentions.push(last_mention(*row))?;
+    }
+    Ok(mentions)
 }
 
 /// The least number above `after`, or of all; none where the greatest isn't above it.
@@ -156,7 +200,7 @@ fn next_from(mentions: &BTreeSet<Mention>, start: Bound<Mention>) -> Option<Ment
 }
 
 /// The row beside the first individual that it names.
-fn first_mention(row: Row) -> Mention
+pub(crate) fn first_mention(row: Row) -> Mention
     ensures { result ≡ record { individual = first_of row; row = row } }
 {
     let individual = match row {
@@ -167,7 +211,7 @@ fn first_mention(row: Row) -> Mention
 }
 
 /// The row beside the last individual that it names, which may be the first one too.
-fn last_mention(row: Row) -> Mention
+pub(crate) fn last_mention(row: Row) -> Mention
     ensures { result ≡ record { individual = last_of row; row = row } }
 {
     let individual = match row {

@@ -1,4 +1,4 @@
-use crate::Assertions;
+use crate::{Assertions, GatheredRows};
 use dl_base::Row;
 use std::process::Abort;
 use std::test::Fail;
@@ -80,4 +80,62 @@ fn follows(rt: &impl Abort, base: &Assertions, after: Option<Row>, row: Row) -> 
     let next = base.next_of(7, after);
     assert_eq!(rt; next, Some(row));
     next
+}
+
+#[test]
+fn rows_in_any_order_are_put_in_order(rt: HostRuntime) -> Result<(), Fail> {
+    let rows = vec![in rt.alloc();
+        role(1, 9, 5),
+        concept(3, u32::MAX),
+        role(0, 5, 9),
+        role(1, 9, 5),
+        role(2, 7, 7),
+        concept(0, 5),
+        role(1, 5, 9),
+    ]?;
+    let base = Assertions::of_rows(rt.alloc(), rows)?;
+    assert_eq!(rt; base.rows(), 6);
+    assert_eq!(rt; base.individuals(), 4);
+    let mut of_five = base.rows_naming(5);
+    assert_eq!(rt; of_five.next(), Some(concept(0, 5)));
+    assert_eq!(rt; of_five.next(), Some(role(0, 5, 9)));
+    assert_eq!(rt; of_five.next(), Some(role(1, 5, 9)));
+    assert_eq!(rt; of_five.next(), Some(role(1, 9, 5)));
+    assert_eq!(rt; of_five.next(), None);
+    assert_eq!(rt; of_five.next(), None);
+    assert_eq!(rt; base.rows_naming(7).count(), 1);
+    assert_eq!(rt; base.rows_naming(u32::MAX).count(), 1);
+    assert_eq!(rt; base.rows_naming(6).count(), 0);
+    let none = Assertions::of_rows(rt.alloc(), Vec::new(rt.alloc()))?;
+    assert_eq!(rt; none.rows(), 0);
+    assert_eq!(rt; none.individuals(), 0);
+    Ok(())
+}
+
+#[test]
+fn gathered_rows_are_counted_as_they_come(rt: HostRuntime) -> Result<(), Fail> {
+    let mut gathered = GatheredRows::new(rt.alloc());
+    assert!(rt; gathered.is_empty());
+    for n in 0..10u32 {
+        gathered.add(role(1, 7, n % 5))?;
+    }
+    assert!(rt; !gathered.is_empty());
+    assert!(rt; gathered.has_at_most(10)?);
+    assert!(rt; gathered.has_at_most(5)?);
+    assert!(rt; !gathered.has_at_most(4)?);
+    assert!(rt; gathered.name_at_most(6)?);
+    assert!(rt; !gathered.name_at_most(5)?);
+    gathered.add(concept(0, 4))?;
+    gathered.del(role(1, 7, 4))?;
+    gathered.add(role(1, 7, 9))?;
+    gathered.add(role(1, 7, 9))?;
+    gathered.del(role(1, 7, 8))?;
+    assert!(rt; gathered.name_at_most(7)?);
+    assert!(rt; !gathered.name_at_most(6)?);
+    let rows = gathered.into_rows()?;
+    assert_eq!(rt; rows.rows(), 6);
+    assert_eq!(rt; rows.individuals(), 7);
+    assert!(rt; rows.has(concept(0, 4)));
+    assert!(rt; !rows.has(role(1, 7, 4)));
+    Ok(())
 }
