@@ -1,66 +1,51 @@
 -- The rows of roles, taken over individual by individual.
-use Rattle.std.proofs.Common.{◌≡◌, ℕ, ◌<◌, ◌⊎◌, ◌↔◌, inl, inr, List, [], Contains, Option, Some, None, refl, sym, subst, arith}
-use Rattle.std.specs.declared.cmp.Ordering.{Ordering}
-use Rattle.std.specs.declared.cmp.Ordering.TheVariants.{Less, Equal, Greater}
-use Rattle.std.proofs.lemmas.Cmp.{tied_itself}
-use Rattle.assert_tables.specs.Rows.{IsNumberAbove, IsRowBehind, IsNextOf, IsNextIndividual}
-use Rattle.dl_base.specs.Rows.{numbered_row_cmp}
+use Rattle.std.proofs.Common.{◌≡◌, ℕ, ◌<◌, ◌⊎◌, ◌↔◌, inl, inr, List, [], ◌∷◌, ◌++◌, Contains, Option, Some, None, refl, sym, subst, arith}
+use Rattle.std.proofs.lemmas.List.Elements.{Contains-append_left, Contains-push}
+use Rattle.assert_tables.specs.Naming.{AreRowsNaming}
+use Rattle.assert_tables.specs.Rows.{IsNumberAbove, IsNextIndividual}
 use Rattle.dl_base.specs.declared.row.Row.{Row}
-use Rattle.dl_base.proofs.RowLemmas.{numbered_total, numbered_same}
-use Rattle.assert_tables.proofs.LeftLemmas.{above_on, behind_on, behind_or_not}
+use Rattle.dl_base.proofs.RowLemmas.{contains_cut}
+use Rattle.assert_tables.proofs.LeftLemmas.{above_on}
 use Rattle.completion.specs.Gathered.{row_of_edge}
 use Rattle.completion.specs.declared.edges.Edge.{Edge}
 
 -- ---- the rows of one individual
 
--- the rows that begin there and aren't behind that one were added
-pub record AddedUpTo (rows : List Row) (n : ℕ) (after : Option Row) (old edges : List Edge) : Type 0 where
-  pub each : (x : Edge) → Contains edges x ↔ (((x.from ≡ n) × Contains rows (row_of_edge x) × (IsRowBehind after (row_of_edge x) → ⊥)) ⊎ Contains old x)
+-- those of these rows that begin there were added
+pub record AreTakenFrom (these : List Row) (n : ℕ) (old edges : List Edge) : Type 0 where
+  pub each : (x : Edge) → Contains edges x ↔ (((x.from ≡ n) × Contains these (row_of_edge x)) ⊎ Contains old x)
 
-pub added_none : (rows : List Row) (n : ℕ) (old : List Edge) → AddedUpTo rows n None old old
-added_none rows n old = record { each = λ x. (λ c. inr c, λ either. elim either [ inl h ↦ absurd (h.2 tt) | inr c ↦ c ]) }
+pub added_none : (n : ℕ) (old : List Edge) → AreTakenFrom [] n old old
+added_none n old = record { each = λ x. (λ c. inr c, λ either. elim either [ inl h ↦ absurd (omega (arith, h.1.1)) | inr c ↦ c ]) }
 
-module _ (rows : List Row) (n : ℕ) (after : Option Row) (r : Row) (old edges new : List Edge) (next : IsNextOf rows n after (Some r))
-    (adds : (x : Edge) → Contains new x ↔ (((x.from ≡ n) × (row_of_edge x ≡ r)) ⊎ Contains edges x)) (far : AddedUpTo rows n after old edges) where
-  not_behind_itself : IsRowBehind (Some r) r → ⊥
-  not_behind_itself e = absurd (let f = tied_itself numbered_total r in cc)
+pub added_more : (these : List Row) (n : ℕ) (r : Row) (old edges new : List Edge) → ((x : Edge) → Contains new x ↔ (((x.from ≡ n) × (row_of_edge x ≡ r)) ⊎ Contains edges x)) → AreTakenFrom these n old edges
+    → AreTakenFrom (these ++ r ∷ []) n old new
+added_more these n r old edges new adds far = record {
+  each = λ x. (
+    λ c. elim ((adds x).0 c) [
+      | inl here ↦ inl (here.0, subst (Contains (these ++ r ∷ [])) (sym here.1) (Contains-push these r))
+      | inr before ↦ elim ((far.each x).0 before) [
+        | inl found ↦ inl (found.0, Contains-append_left these (r ∷ []) (row_of_edge x) found.1)
+        | inr earlier ↦ inr earlier
+      ]
+    ],
+    λ either. (adds x).1 (elim either [
+      | inl h ↦ elim (contains_cut these r (row_of_edge x) h.1) [
+        | inl e ↦ inl (h.0, e)
+        | inr d ↦ inr ((far.each x).1 (inl (h.0, d)))
+      ]
+      | inr earlier ↦ inr ((far.each x).1 (inr earlier))
+    ]),
+  );
+}
 
-  into : (x : Edge) → Contains new x → ((x.from ≡ n) × Contains rows (row_of_edge x) × (IsRowBehind (Some r) (row_of_edge x) → ⊥)) ⊎ Contains old x
-  into x c = elim ((adds x).0 c) [
-    | inl here ↦ inl (here.0, subst (Contains rows) (sym here.1) next.0, λ less. not_behind_itself (subst (IsRowBehind (Some r)) here.1 less))
-    | inr before ↦ elim ((far.each x).0 before) [
-      | inl found ↦ inl (found.0, found.1, λ less. found.2 (behind_on after r (row_of_edge x) next.2 less))
-      | inr earlier ↦ inr earlier
-    ]
-  ]
-
-  at_most : (x : Edge) → x.from ≡ n → Contains rows (row_of_edge x) → (IsRowBehind (Some r) (row_of_edge x) → ⊥) → IsRowBehind after (row_of_edge x) ⊎ (IsRowBehind after (row_of_edge x) → ⊥) → Contains new x
-  at_most x from there not_less (inr not) = (adds x).1 (inr ((far.each x).1 (inl (from, there, not))))
-  at_most x from there not_less (inl behind) = by (numbered_row_cmp r (row_of_edge x)) refl
-    where
-      by : (o : Ordering) → numbered_row_cmp r (row_of_edge x) ≡ o → Contains new x
-      by Less e = absurd (not_less e)
-      by Equal e = (adds x).1 (inl (from, sym (numbered_same r (row_of_edge x) e)))
-      by Greater e = absurd (next.3 (row_of_edge x) there (inl (sym from)) behind e)
-
-  pub added_more : AddedUpTo rows n (Some r) old new
-  added_more = record {
-    each = λ x. (
-      into x,
-      λ either. elim either [
-        | inl h ↦ at_most x h.0 h.1 h.2 (behind_or_not after (row_of_edge x))
-        | inr c ↦ (adds x).1 (inr ((far.each x).1 (inr c)))
-      ],
-    );
-  }
-
--- behind the last row of the individual all were added
-pub added_all : (rows : List Row) (n : ℕ) (after : Option Row) (old edges : List Edge) → IsNextOf rows n after None → AddedUpTo rows n after old edges
+-- where they are all that name the individual, all were added
+pub added_all : (rows these : List Row) (n : ℕ) (old edges : List Edge) → AreRowsNaming rows n these → AreTakenFrom these n old edges
     → (x : Edge) → Contains edges x ↔ (((x.from ≡ n) × Contains rows (row_of_edge x)) ⊎ Contains old x)
-added_all rows n after old edges none far x = (
-  λ c. elim ((far.each x).0 c) [ inl h ↦ inl (h.0, h.1) | inr before ↦ inr before ],
+added_all rows these n old edges naming far x = (
+  λ c. elim ((far.each x).0 c) [ inl h ↦ inl (h.0, ((naming.each (row_of_edge x)).0 h.1).0) | inr before ↦ inr before ],
   λ either. (far.each x).1 (elim either [
-    | inl h ↦ inl (h.0, h.1, none (row_of_edge x) h.1 (inl (sym h.0)))
+    | inl h ↦ inl (h.0, (naming.each (row_of_edge x)).1 (h.1, inl (sym h.0)))
     | inr before ↦ inr before
   ]),
 )

@@ -1,8 +1,10 @@
 -- What rows by numbers say is what the rows by names say that they stand for.
-use Rattle.std.proofs.Common.{◌≡◌, ℕ, ◌↔◌, inl, inr, Bool, true, false, List, slice_get, Contains, Some, refl, sym, ◌∙◌, ap, subst}
+use Rattle.std.proofs.Common.{◌≡◌, ℕ, ◌↔◌, inl, inr, Bool, true, false, List, slice_get, All, Contains, Some, refl, sym, ◌∙◌, ap, subst}
+use Rattle.std.proofs.lemmas.List.Elements.{All-contains_itself, All-weaker}
+use Rattle.std.proofs.lemmas.Option.{slice_get_within}
 use Rattle.assert_tables.specs.Rows.{IsNamedIn}
 use Rattle.dl_base.specs.Numbers.{NumbersRow, StandFor}
-use Rattle.completion.specs.Numbered.{GivesBasic, HoldsBy, IsLiveRole, IsNamed, PointsTo}
+use Rattle.completion.specs.Numbered.{GivesBasic, HoldsBy, IsLiveRole, IsNamed, IsRowOf, PointsTo}
 use Rattle.dl_base.specs.Completion.{IndividualPoints, IsLive}
 use Rattle.dl_base.specs.Completion as completion
 use Rattle.dl_base.specs.Ontology.{Terminology, IsTerminology}
@@ -17,6 +19,16 @@ use Rattle.dl_base.specs.declared.row.Row.TheVariants as row
 use Rattle.dl_base.proofs.DerivationLemmas.{monotone}
 use Rattle.dl_base.proofs.PlaceLemmas.{one_place, some_same}
 use Rattle.role_graph.specs.Reached.{first, next}
+
+row_placed : (o : Terminology) (names : List (List ℕ)) (r : NamedRow) (n : Row) → NumbersRow o names r n → IsRowOf o n
+row_placed o names (named.Concept c a) (row.Concept d k) is = slice_get_within o.concepts d c is.0
+row_placed o names (named.Role p a b) (row.Role q k m) is = slice_get_within o.roles q p is.0
+row_placed o names (named.Concept c a) (row.Role q k m) is = absurd is
+row_placed o names (named.Role p a b) (row.Concept d k) is = absurd is
+
+-- rows that stand for some are of the ontology
+pub rows_placed : (o : Terminology) (names : List (List ℕ)) (rows : List Row) (these : List NamedRow) → StandFor o names rows these → All (IsRowOf o) rows
+rows_placed o names rows these stand = All-weaker (Contains rows) (IsRowOf o) (λ n there. (let found = stand.only n there in row_placed o names found.0 n found.2)) rows (All-contains_itself rows)
 
 module _ (o : Terminology) (names : List (List ℕ)) (rows : List Row) (these : List NamedRow) (within : IsTerminology o) (stand : StandFor o names rows these) where
   -- ---- individuals

@@ -26,10 +26,8 @@ fn add_from(edges: &mut Vec<Edge>, rows: &Assertions, individual: u32) -> Result
     ensures { OnOk result ((x : AnyEdge) → Contains edges.new.items x
         ↔ (((x.from ≡ individual) × Contains rows.now (row_of_edge x)) ⊎ Contains edges.old.items x)) }
 {
-    let mut after = None;
-    while let Some(row) = rows.next_of(individual, after) {
+    for row in rows.rows_naming(individual) {
         push_from(edges, row, individual)?;
-        after = Some(row);
     }
     Ok(())
 }

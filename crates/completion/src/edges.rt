@@ -6,8 +6,8 @@ ghost use Rattle.completion.specs.Members.{IsFirstPast, is_number_passed};
 ghost use Rattle.completion.specs.declared.edges.Edge.{Edge as AnyEdge};
 ghost use Rattle.dl_base.specs.Tables.{IsLeastAbove};
 
-use crate::order::in_order;
 use crate::search::first_near;
+use assert_tables::in_order;
 use dl_base::{Elem, Hint, Role};
 use std::alloc::{AllocError, Global};
 use std::marker::Model;

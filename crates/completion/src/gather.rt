@@ -10,7 +10,7 @@ ghost use Rattle.role_graph.specs.Graph.{HasNode, IsGraphOf};
 use crate::individuals::AtIndividual;
 use crate::members::Members;
 use crate::numbers::Numbers;
-use crate::order::in_order;
+use assert_tables::in_order;
 use dl_base::{Basic, Role, Witness};
 use horn_closure::Rules;
 use role_graph::RoleGraph;

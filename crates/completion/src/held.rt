@@ -13,10 +13,8 @@ pub(crate) fn held_by(rows: &Assertions, individual: u32) -> BasicSet
     ensures { (b : AnyBasic) → HasBasic result b ↔ HoldsBy rows.now individual b }
 {
     let mut held = BasicSet::new();
-    let mut after = None;
-    while let Some(row) = rows.next_of(individual, after) {
+    for row in rows.rows_naming(individual) {
         hold(&mut held, row, individual);
-        after = Some(row);
     }
     held
 }

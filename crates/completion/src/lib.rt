@@ -10,7 +10,6 @@ mod held;
 mod individuals;
 mod members;
 mod numbers;
-mod order;
 mod points;
 mod properties;
 mod rows;

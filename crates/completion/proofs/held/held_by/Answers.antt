@@ -1,20 +1,23 @@
-use Rattle.assert_tables.proofs.LeftLemmas.{fewer_left}
-use Rattle.completion.proofs.HeldLemmas.{held_all, held_more, held_none}
-use Rattle.completion.specs.Numbered.{IsRowWithin}
+use Rattle.std.proofs.Common.{◌≡◌, Contains, List, subst, sym, ◌∙◌}
 use Rattle.std.proofs.lemmas.List.Elements.{All-contains}
+use Rattle.assert_tables.proofs.NamingLemmas.{all_came, comes_of}
+use Rattle.dl_base.specs.declared.row.Row.{Row}
+use Rattle.completion.proofs.HeldLemmas.{AreHeld, held_all, held_more}
+use Rattle.completion.specs.Numbered.{IsRowWithin}
 use Rattle.completion.proofs.held.held_by.Goals as goal
 
-pub loop-row-init : goal.loop-row-init
-loop-row-init c = held_none c.args.rows.now c.args.individual c.new-held.result c.new-held.ensures
-
 pub hold-requires : goal.hold-requires
-hold-requires c = All-contains (IsRowWithin 512 256) c.args.rows.now c.in-Some.row c.requires c.in-Some.ensures.0
-
-pub loop-row-smaller : goal.loop-row-smaller
-loop-row-smaller c = fewer_left c.loop-row.after c.in-Some.row c.in-Some.ensures.2 c.args.rows.now c.in-Some.ensures.0
+hold-requires c =
+    let there = comes_of c.loop-row.yielded c.into_iter-row-iterator.result c.loop-row.row-iterator c.next.new.self c.in-Some.row c.loop-row.yielded_by c.in-Some.ensures.steps in
+    let of_these = subst (λ (rows : List Row). Contains rows c.in-Some.row) c.into_iter-row-iterator.ensures.into_iter_gives there in
+    All-contains (IsRowWithin 512 256) c.args.rows.now c.in-Some.row c.requires ((c.rows_naming-row-items.ensures.each c.in-Some.row).0 of_these).0
 
 pub loop-row-preserved : goal.loop-row-preserved
-loop-row-preserved c = held_more c.args.rows.now c.args.individual c.loop-row.after c.in-Some.row c.loop-row.held c.hold.new.held c.in-Some.ensures c.hold.ensures c.loop-row.invariant
+loop-row-preserved c = held_more c.loop-row.yielded c.args.individual c.in-Some.row c.loop-row.held c.hold.new.held c.hold.ensures c.loop-row.invariant
 
 pub returns : goal.returns
-returns c = held_all c.args.rows.now c.args.individual c.loop-row.after c.loop-row.held c.in_default.ensures c.loop-row.invariant
+returns c =
+    let all = all_came c.loop-row.yielded c.into_iter-row-iterator.result c.loop-row.row-iterator c.loop-row.yielded_by c.in-None.ensures.steps.0 in
+    let these : c.rows_naming-row-items.result ≡ c.loop-row.yielded = sym c.into_iter-row-iterator.ensures.into_iter_gives ∙ all in
+    held_all c.args.rows.now c.rows_naming-row-items.result c.args.individual c.loop-row.held c.rows_naming-row-items.ensures
+    (subst (λ (rows : List Row). AreHeld rows c.args.individual c.loop-row.held) (sym these) c.loop-row.invariant)

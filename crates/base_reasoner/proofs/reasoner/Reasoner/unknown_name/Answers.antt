@@ -1,7 +1,7 @@
 use Rattle.std.proofs.Common.{subst}
 use Rattle.query_shape.specs.Shape.{IsShapeOf}
 use Rattle.base_reasoner.specs.Reasoned.{Reasoned}
-use Rattle.base_reasoner.proofs.FoundReplies.{shape_known}
+use Rattle.query_shape.proofs.NumberingLemmas.{shape_known}
 use Rattle.base_reasoner.proofs.reasoner.Reasoner.unknown_name.Goals as goal
 
 pub returns-in-Ok : goal.returns-in-Ok
