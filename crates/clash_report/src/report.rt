@@ -1,8 +1,11 @@
 //! The first clash among all individuals.
-ghost use Rattle.std.specs.Prelude.{◌≡◌, ◌<◌, ◌+◌, ◌↔◌, IfOk, IsTrue, MatchOption, All, List, ℕ, Some, length, slice_get};
+ghost use Rattle.std.specs.Prelude.{◌≡◌, ◌≢◌, ◌<◌, ◌+◌, ◌↔◌, Contains, IfOk, IsTrue, MatchOption, All, List, ℕ, Some, length, slice_get};
+ghost use Rattle.std.specs.Bool.{OnFalse};
 ghost use Rattle.completion.specs.Individuals.{IsKept};
 ghost use Rattle.completion.specs.Named.{IsNamedCompletion};
 ghost use Rattle.dl_base.specs.Rows.{Held, IsIndividual};
+ghost use Rattle.dl_base.specs.declared.concept.Head.TheVariants as head;
+ghost use Rattle.dl_base.specs.declared.concept.Inclusion.{Inclusion as AnyInclusion};
 ghost use Rattle.dl_base.specs.declared.row.NamedRow.{NamedRow};
 ghost use Rattle.role_graph.specs.Graph.{IsGraphOf};
 ghost use Rattle.clash_report.specs.After.{ArePlaced, IsFirstAfter};
@@ -11,14 +14,14 @@ ghost use Rattle.clash_report.specs.Report.{AreNamedRoles, AreWithinNames, Comes
 use crate::at::first_at;
 use crate::found::Found;
 use completion::Completed;
-use dl_base::{Clash, Items, NameBook, NamedRole, Ontology, Path, Role};
+use dl_base::{Clash, Head, Items, NameBook, NamedRole, Ontology, Path, Role};
 use role_graph::{RoleClash, RoleGraph};
 use std::alloc::{AllocError, Global};
 
 /// The first clash of the base of which the tables are completed: the individuals in the order of their names, and at each the
 /// shortest list of roles, then the least in role order, then the least inclusion. None exactly where there is no clash.
 ///
-/// A base without a clash costs one look at each individual and at each of its roles.
+/// A base without a clash costs one look at each individual and at each of its roles; and none where no inclusion is to nothing.
 pub fn first_clash(
     alloc: Global,
     t: &Completed,
@@ -30,6 +33,9 @@ pub fn first_clash(
     requires numbered { AreWithinNames t.now individuals.now }
     ensures { (rows : List NamedRow) → IsNamedCompletion o.now individuals.now rows t.now → IfOk result (IsReported o.now rows) }
 {
+    if !has_inclusion_to_nothing(o) {
+        return Ok(None);
+    }
     match least_found(alloc, t, g, o, individuals)? {
         None => Ok(None),
         Some(found) => {
@@ -42,6 +48,13 @@ pub fn first_clash(
             }))
         }
     }
+}
+
+/// Whether an inclusion of the ontology is to nothing.
+fn has_inclusion_to_nothing(o: &Ontology) -> bool
+    ensures { OnFalse result ((i : AnyInclusion) → Contains o.now.inclusions i → i.head ≢ head.Nothing) }
+{
+    o.inclusions().iter().any(|i| i.head == Head::Nothing)
 }
 
 /// The first clash, by the number of its individual.

@@ -1,8 +1,15 @@
 use Rattle.std.proofs.Common.{refl, subst, length, List}
+use Rattle.std.proofs.lemmas.Bool.{OnFalse_at}
+use Rattle.dl_base.proofs.PlaceLemmas.{member_at}
 use Rattle.dl_base.specs.declared.concept.Role.{Role}
 use Rattle.clash_report.specs.Report.{AreNamedRoles, IsLeastFound}
 use Rattle.clash_report.proofs.ReportLemmas.{reported_none, reported_some}
 use Rattle.clash_report.proofs.report.first_clash.Goals as goal
+
+pub returns-then-not-has_inclusion_to_nothing : goal.returns-then-not-has_inclusion_to_nothing
+returns-then-not-has_inclusion_to_nothing c = λ rows are place clash.
+    let at = clash.violates in
+    absurd (OnFalse_at c.if-not-has_inclusion_to_nothing.true c.has_inclusion_to_nothing.ensures at.inclusion (member_at c.args.o.now.inclusions at.before at.inclusion at.at) at.nothing)
 
 pub returns-in-None : goal.returns-in-None
 returns-in-None c = λ rows are.
