@@ -1,4 +1,4 @@
-pub mod Lists
+pub mod Skipped
 pub mod Runs
 pub mod SizedNames
 pub mod SpelledNames

@@ -1,7 +1,8 @@
 -- Readers of names of so many bytes are exact.
-use Rattle.std.proofs.Common.{◌≡◌, ℕ, zero, suc, ◌+◌, ◌-◌, ◌<◌, ◌≤◌, Bool, true, false, cond, List, [], ◌∷◌, ◌++◌, length, replicate, Ok, Err, refl, sym, ap, subst, ◌∙◌, arith, nat_lt, append_assoc, inl, inr, length-append}
+use Rattle.std.proofs.Common.{◌≡◌, ℕ, zero, suc, ◌+◌, ◌-◌, ◌<◌, ◌≤◌, Bool, true, false, cond, List, [], ◌∷◌, ◌++◌, length, replicate, take, Ok, Err, refl, sym, ap, subst, ◌∙◌, arith, nat_lt, append_assoc, inl, inr, length-append}
 use Rattle.std.specs.Prelude.{codes, not, ◌==◌}
 use Rattle.std.proofs.lemmas.Bool.{ltb-true, ltb-false, cases_lt, lt-ltb, le-ltb}
+use Rattle.std.proofs.Math.Seq.{take-append_seam}
 use Rattle.grammar.specs.Bytes.{starts_name, is_name_byte, is_angled_byte, is_kind}
 use Rattle.grammar.specs.Grammar.{Grammar, ◌>>=◌, ◌>>◌, ◌∣◌, means, literal, bytes_within}
 use Rattle.grammar.specs.Reading.{Outcome, and_then, next_is, run_at}
@@ -9,10 +10,9 @@ use Rattle.grammar.proofs.Exact.{SameHead, IsExact, Anything, Same, exact_same, 
 use Rattle.grammar.proofs.Parts.{Every, Every-middle, IsRun, run_at-run}
 use Rattle.grammar.proofs.ByteKinds.{naming_from_starting}
 use Rattle.grammar.proofs.Rules.{Reads, HasText, reads_any, reads_literal, reads_means, reads_same}
-use Rattle.grammar.specs.declared.bytes.Kind.TheVariants.{Starting, Naming, Angled}
-use Rattle.dl_base.specs.Names.{IsWord, IsReserved, IsBare, IsName, bare, angled, name}
+use Rattle.dl_base.specs.Names.{IsWord, IsReserved, IsBare, bare, angled, name}
 use Rattle.dl_base.specs.NameReading.{is_reserved}
-use Rattle.dl_base.proofs.NameRules.{reserved_cases, word_each, bare_of, each_of, run_at-cons, word_never, first_of_word}
+use Rattle.dl_base.proofs.NameRules.{name_value, reserved_cases, word_each, bare_of, each_of, run_at-cons, word_never, first_of_word}
 use Rattle.txn_codec.specs.PiecesReading.{exactly_at, bare_of_at, angled_of_at, name_of_at}
 use Rattle.txn_codec.proofs.Runs.{Every-append, Every-replicate, filled, length-filled, too_long, same_front, exact_exactly, and_then-cond}
 
@@ -248,36 +248,11 @@ exact_name_of n text pos le = elim (cases_lt n 3) [
 
 -- ---- what was read is a name
 
-read_bare_of : (n : ℕ) (text w rest : List ℕ) → exactly_at (is_kind Naming) n text ≡ Ok (w, rest) → is_reserved w ≡ false → bare_of_at n text ≡ Ok (w, rest)
-unfolding bare_of_at
-read_bare_of n text w rest e free =
-    ap (λ (r : Outcome (List ℕ)). and_then r (λ found. cond (is_reserved found.0) (Err (length found.1 + 1)) (Ok found))) e ∙ rw free refl
-
-pub bare_of_is_name : (n : ℕ) (text w rest : List ℕ) → 1 ≤ n → n ≤ 255 → next_is (is_kind Starting) text ≡ true → exactly_at (is_kind Naming) n text ≡ Ok (w, rest) → is_reserved w ≡ false → IsName w
-unfolding is_kind
-bare_of_is_name n text w rest pos le start e free =
-    let d : IsExact (sized n (bare 255)) Anything text (Ok (w, rest)) = subst (λ (o : Outcome (List ℕ)). IsExact (sized n (bare 255)) Anything text o) (read_bare_of n text w rest e free) (bare_true n text pos le start) in
-    (w, inl (subst (λ (a : List ℕ). bare 255 a w) (sym d.fits.0.2) d.fits.0))
-
-pub angled_of_is_name : (n : ℕ) (text inner rest : List ℕ) → 3 ≤ n → n ≤ 255 → exactly_at (is_kind Angled) (n - 2) text ≡ Ok (inner, rest) → IsName (codes "<" ++ inner ++ codes ">")
-unfolding is_kind
-angled_of_is_name n text inner rest least le e =
-    let d : IsExact (bytes_within is_angled_byte (n - 2) (n - 2)) Anything text (Ok (inner, rest)) = subst (λ (o : Outcome (List ℕ)). IsExact (bytes_within is_angled_byte (n - 2) (n - 2)) Anything text o) e (reads_inner n text).is in
-    let within : bytes_within is_angled_byte 1 253 d.front inner = (d.fits.0, omega (arith, least, d.fits.1), omega (arith, le, d.fits.2), d.fits.3) in (
-      codes "<" ++ inner ++ codes ">",
-      inr record {
-        front = codes "<";
-        back = inner ++ codes ">";
-        met = tt;
-        parts = refl;
-        in_first = refl;
-        in_second = record {
-          front = inner;
-          back = codes ">";
-          met = inner;
-          parts = refl;
-          in_first = subst (λ (a : List ℕ). bytes_within is_angled_byte 1 253 a inner) (sym d.fits.3) within;
-          in_second = record { front = codes ">"; back = []; met = tt; parts = refl; in_first = refl; in_second = (refl, refl) };
-        };
-      },
+-- the bytes of the name are the first n ones
+pub angled_is_front : (n : ℕ) (text w rest : List ℕ) → 3 ≤ n → n ≤ 255 → angled_of_at n text ≡ Ok (w, rest) → (n ≤ length text) × (w ≡ take n text)
+angled_is_front n text w rest least le e =
+    let d : IsExact (sized n angled) Anything text (Ok (w, rest)) = subst (λ (o : Outcome (List ℕ)). IsExact (sized n angled) Anything text o) e (reads_angled {text = text} n least le).is in
+    let front-is : take n text ≡ d.front = ap (λ (k : ℕ). take k text) (sym d.fits.1) ∙ ap (λ (a : List ℕ). take (length d.front) a) d.parts ∙ take-append_seam d.front rest in (
+      omega (arith, d.fits.1, length-parts d.front rest text d.parts),
+      name_value d.front w (inr d.fits.0) ∙ sym front-is,
     )

@@ -150,6 +150,11 @@ reads_spelled_name {text} = record {
   some = record { text = 1 ∷ 97 ∷ []; value = 97 ∷ []; is = (refl, name_of_bare 255 (97 ∷ []) (omega arith) (bare_of (97 ∷ []) (refl, tt) refl) (omega arith)) };
 }
 
+pub spelled_is_name : (text w rest : List ℕ) → spelled_name_at text ≡ Ok (w, rest) → IsName w
+spelled_is_name text w rest e =
+    let d : IsExact spelled_name Anything text (Ok (w, rest)) = subst (λ (o : Outcome (List ℕ)). IsExact spelled_name Anything text o) e (reads_spelled_name {text = text}).is in
+    d.fits.1
+
 -- ---- so many texts
 
 pub same_none : {V : Type 0} {g : Grammar V} → Same (means []) (exactly 0 g)

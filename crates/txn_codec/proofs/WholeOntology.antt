@@ -1,11 +1,9 @@
 -- What reading all bytes of an ontology gives.
-use Rattle.std.proofs.Common.{◌≡◌, ℕ, zero, suc, ◌+◌, ◌-◌, ◌≤◌, Bool, true, false, List, [], ◌∷◌, ◌++◌, length, take, drop, Result, Ok, Err, refl, sym, ap, subst, ◌∙◌, arith, inl, inr, Contains, append_assoc, Some, slice_get}
+use Rattle.std.proofs.Common.{◌≡◌, ℕ, zero, suc, ◌-◌, ◌≤◌, Bool, true, false, List, [], ◌∷◌, length, Result, Ok, Err, refl, subst, arith, inl, inr, Contains, Some, slice_get}
 use Rattle.std.specs.List.{list_any}
 use Rattle.std.specs.Str.{bytes_eq}
-use Rattle.std.proofs.lemmas.Bool.{cases_lt}
-use Rattle.std.proofs.lemmas.List.{take-append-drop, take-append-le, length-take}
 use Rattle.grammar.specs.Reading.{Outcome, whole}
-use Rattle.grammar.specs.Grammar.{Grammar, Begins, IsFaultAt}
+use Rattle.grammar.specs.Grammar.{Grammar, IsFaultAt}
 use Rattle.grammar.specs.Grammar.{Contains as HasValue}
 use Rattle.grammar.proofs.Exact.{IsExact, Anything, Nothing, IsWhole, exact_fewer, exact_whole}
 use Rattle.grammar.proofs.FaultPlaces.{not_before}

@@ -12,6 +12,11 @@ abbrev pub IsChangesFault : List ℕ → CodecError → Type 0
 IsChangesFault bytes (Bad at) = IsFaultAt changes_payload bytes at
 IsChangesFault bytes NoMemory = Unit {0}
 
+-- the same, where memory doesn't run out
+abbrev pub NamesChangesFault : List ℕ → CodecError → Type 0
+NamesChangesFault bytes (Bad at) = IsFaultAt changes_payload bytes at
+NamesChangesFault bytes NoMemory = ⊥
+
 -- Of an ontology, it is the least place of the fault of the loose texts, of a name that stands earlier in its list and
 -- of a place out of range.
 abbrev pub IsOntologyFault : List ℕ → CodecError → Type 0

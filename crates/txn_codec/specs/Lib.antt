@@ -4,6 +4,8 @@ pub mod Spelling
 pub mod Room
 pub mod PiecesReading
 pub mod ChangesReading
+pub mod Skimming
+pub mod ChangeView
 pub mod Checked
 pub mod OntologyPayload
 pub mod OntologyReading

@@ -31,6 +31,50 @@ fn changes(alloc: Global, bytes: &[u8]) -> Result<Seen, AllocError> {
     }
 }
 
+/// What reading them one at a time gives; the changes that are handed out have to be written as the same bytes.
+fn one_by_one(alloc: Global, bytes: &[u8]) -> Result<Seen, AllocError> {
+    match ChangeReader::new(bytes) {
+        Ok(reader) => {
+            let mut out = Vec::from_slice(alloc, &reader.left().to_be_bytes())?;
+            for change in reader {
+                put_view(&change, &mut out)?;
+            }
+            if out.as_slice() == bytes {
+                Ok(Seen::Read)
+            } else {
+                Ok(Seen::Bad(0))
+            }
+        }
+        Err(CodecError::Bad(at)) => Ok(Seen::Bad(at)),
+        Err(CodecError::NoMemory) => Err(AllocError),
+    }
+}
+
+fn put_view(change: &ChangeView<'_>, out: &mut Vec<u8>) -> Result<(), AllocError> {
+    out.push(change.add as u8)?;
+    match &change.row {
+        RowView::Concept {
+            concept,
+            individual,
+        } => {
+            out.push(2)?;
+            put_slice(concept, out)?;
+            put_slice(individual, out)
+        }
+        RowView::Role { role, from, to } => {
+            out.push(3)?;
+            put_slice(role, out)?;
+            put_slice(from, out)?;
+            put_slice(to, out)
+        }
+    }
+}
+
+fn put_slice(name: &NameSlice<'_>, out: &mut Vec<u8>) -> Result<(), AllocError> {
+    out.push(u8::try_from(name.bytes().len()).unwrap_or(0))?;
+    out.extend_from_slice(name.bytes())
+}
+
 /// The same of ontologies.
 fn ontology(alloc: Global, bytes: &[u8]) -> Result<Seen, AllocError> {
     match read_ontology(alloc, bytes) {
@@ -70,6 +114,15 @@ fn each_byte_of_the_examples(rt: HostRuntime) -> Result<(), Fail> {
             "at {at}"
         );
         assert_eq!(rt; changes(rt.alloc(), &payload[..at])?, Seen::Bad(at as u64));
+        assert_eq!(rt;
+            one_by_one(rt.alloc(), &other)?,
+            Seen::Bad(places[at]),
+            "at {at}"
+        );
+        assert_eq!(rt;
+            one_by_one(rt.alloc(), &payload[..at])?,
+            Seen::Bad(at as u64)
+        );
     }
     let payload: [u8; 8] = [0, 1, 1, b'A', 0, 0, 0, 0];
     assert_eq!(rt; ontology(rt.alloc(), &payload)?, Seen::Read);
@@ -115,6 +168,7 @@ fn changes_and_their_faults(rt: HostRuntime) -> Result<(), Fail> {
     ];
     for (bytes, seen) in table {
         assert_eq!(rt; changes(rt.alloc(), bytes)?, seen, "at {bytes:?}");
+        assert_eq!(rt; one_by_one(rt.alloc(), bytes)?, seen, "at {bytes:?}");
     }
     Ok(())
 }
@@ -186,6 +240,93 @@ fn large_payloads_of_changes(rt: HostRuntime) -> Result<(), Fail> {
     add_change(&mut out, 60, 60)?;
     assert_eq!(rt; out.len(), 8_388_608);
     assert_eq!(rt; changes(rt.alloc(), out.as_slice())?, Seen::Read);
+    Ok(())
+}
+
+#[test]
+fn the_changes_of_a_payload(rt: HostRuntime) -> Result<(), Fail> {
+    let bytes = b"\0\0\0\x02\x01\x02\x01A\x01a\0\x03\x01R\x01a\x03<b>";
+    let Ok(mut reader) = ChangeReader::new(bytes) else {
+        return Err(Fail::new("no payload"));
+    };
+    assert_eq!(rt; reader.left(), 2);
+    match reader.next() {
+        Some(
+            ChangeView {
+                add: true,
+                row: RowView::Concept {
+                    concept,
+                    individual,
+                },
+            },
+        ) => {
+            assert_eq!(rt; concept.bytes(), b"A".as_slice());
+            assert_eq!(rt; individual.bytes(), b"a".as_slice());
+        }
+        _ => return Err(Fail::new("another change")),
+    }
+    assert_eq!(rt; reader.left(), 1);
+    match reader.next() {
+        Some(
+            ChangeView {
+                add: false,
+                row: RowView::Role { role, from, to },
+            },
+        ) => {
+            assert_eq!(rt; role.bytes(), b"R".as_slice());
+            assert_eq!(rt; from.bytes(), b"a".as_slice());
+            assert_eq!(rt; to.bytes(), b"<b>".as_slice());
+        }
+        _ => return Err(Fail::new("another change")),
+    }
+    assert_eq!(rt; reader.next().is_none(), true);
+    assert_eq!(rt; reader.left(), 0);
+    Ok(())
+}
+
+/// A payload of 8,388,608 bytes: 1,398,099 changes of 6 bytes, and one of 10.
+fn most_changes(alloc: Global) -> Result<Vec<u8>, AllocError> {
+    let mut hundred = Vec::new(alloc);
+    for _ in 0..100 {
+        hundred.extend_from_slice(b"\x01\x02\x01A\x01a")?;
+    }
+    let mut out = Vec::with_capacity(alloc, 8_388_608)?;
+    out.extend_from_slice(&1_398_100u32.to_be_bytes())?;
+    for _ in 0..13_980 {
+        out.extend_from_slice(hundred.as_slice())?;
+    }
+    for _ in 0..99 {
+        out.extend_from_slice(b"\x01\x02\x01A\x01a")?;
+    }
+    out.extend_from_slice(b"\x01\x02\x04Andy\x02bc")?;
+    Ok(out)
+}
+
+#[test]
+fn the_most_changes_that_a_payload_has_room_for(rt: HostRuntime) -> Result<(), Fail> {
+    let bytes = most_changes(rt.alloc())?;
+    assert_eq!(rt; bytes.len(), 8_388_608);
+    let Ok(reader) = ChangeReader::new(bytes.as_slice()) else {
+        return Err(Fail::new("no payload"));
+    };
+    let mut added = 0u32;
+    for change in reader {
+        if change.add {
+            added = added.wrapping_add(1);
+        }
+    }
+    assert_eq!(rt; added, 1_398_100);
+    Ok(())
+}
+
+#[test]
+fn a_count_of_changes_that_are_not_there(rt: HostRuntime) -> Result<(), Fail> {
+    let more = b"\xff\xff\xff\xff\x01\x02\x01A\x01a";
+    assert_eq!(rt; one_by_one(rt.alloc(), more)?, Seen::Bad(10));
+    assert_eq!(rt; changes(rt.alloc(), more)?, Seen::Bad(10));
+    let fewer = b"\0\0\0\0\x01\x02\x01A\x01a";
+    assert_eq!(rt; one_by_one(rt.alloc(), fewer)?, Seen::Bad(4));
+    assert_eq!(rt; changes(rt.alloc(), fewer)?, Seen::Bad(4));
     Ok(())
 }
 
