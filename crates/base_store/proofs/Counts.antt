@@ -1,12 +1,11 @@
 -- How many rows and individuals there are, by name and by number.
 use Rattle.std.proofs.Common.{◌≡◌, ◌⊎◌, ◌<◌, ◌≤◌, inl, inr, ℕ, List, [], ◌∷◌, length, Contains, Some, slice_get, refl, sym, ◌∙◌, ap, subst, arith}
-use Rattle.std.specs.Prelude.{flat_map}
 use Rattle.std.proofs.lemmas.Bool.{cases_order}
 use Rattle.std.proofs.lemmas.Cmp.{nat_cmp_total}
 use Rattle.std.specs.Ordering.{nat_cmp}
 use Rattle.assert_tables.specs.Rows.{AreRisingRows, IsNamedIn, individuals_of}
 use Rattle.assert_tables.proofs.CountLemmas.{individual_named, individuals_rise, named_individual}
-use Rattle.dl_base.specs.Numbers.{NumbersRow, StandFor, names_in}
+use Rattle.dl_base.specs.Numbers.{NumbersRow, StandFor}
 use Rattle.dl_base.specs.Ontology.{Terminology, IsTerminology}
 use Rattle.dl_base.specs.Rows.{AreIndividuals, AreRows, Names, name_cmp, numbered_row_cmp, row_cmp}
 use Rattle.dl_base.specs.declared.row.NamedChange.{NamedChange}
@@ -15,10 +14,10 @@ use Rattle.dl_base.specs.declared.row.NamedRow.TheVariants as named
 use Rattle.dl_base.specs.declared.row.Row.{Row}
 use Rattle.dl_base.specs.declared.row.Row.TheVariants as row
 use Rattle.dl_base.proofs.IndividualLemmas.{individuals, individuals_are}
-use Rattle.dl_base.proofs.InOrder.{from_order, in_order, in_order_rises, into_order, rising_distinct}
+use Rattle.dl_base.proofs.InOrder.{rising_distinct}
 use Rattle.dl_base.proofs.NumberedRowLemmas.{no_more_than, one_name, one_number}
-use Rattle.dl_base.proofs.PlaceLemmas.{flat_part, flat_there, one_place, some_same}
-use Rattle.dl_base.proofs.RisingLemmas.{contains_cases, contains_first, contains_later, nat_same}
+use Rattle.dl_base.proofs.PlaceLemmas.{one_place, some_same}
+use Rattle.dl_base.proofs.RisingLemmas.{contains_first, nat_same}
 use Rattle.dl_base.proofs.RowLemmas.{name_same, name_total, none_rising, numbered_same, numbered_total, row_same, row_total}
 use Rattle.base_store.specs.History.{History, Empty, Over}
 use Rattle.base_store.specs.Legal.{IsCrowded}

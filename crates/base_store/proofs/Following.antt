@@ -1,6 +1,7 @@
 -- What rows by number become when a change is made.
-use Rattle.std.proofs.Common.{◌≡◌, ◌≢◌, inl, inr, ℕ, ◌+◌, true, false, List, [], ◌∷◌, ◌++◌, AllPairs, Contains, Some, slice_get, get_or, length, take, ◌<◌, ◌≤◌, refl, sym, ◌∙◌, ap, subst}
+use Rattle.std.proofs.Common.{◌≡◌, ◌≢◌, inl, inr, ℕ, ◌+◌, ◌*◌, ◌≤◌, true, false, List, [], ◌∷◌, ◌++◌, All, AllPairs, Contains, Some, slice_get, get_or, length, take, ◌<◌, refl, sym, ◌∙◌, ap, subst, arith, append_assoc, length-append}
 use Rattle.std.proofs.lemmas.List.{take_all, take_more}
+use Rattle.std.proofs.lemmas.List.Elements.{All-push}
 use Rattle.assert_tables.specs.Rows.{Gains, Loses}
 use Rattle.dl_base.specs.Axiom.{with_names}
 use Rattle.dl_base.specs.Numbers.{IsPlaceOf, NumbersRow, names_in}
@@ -76,6 +77,24 @@ pub follows_more : (o : Terminology) (cs : List NamedChange) (c : NamedChange) (
 follows_more o cs c names mid_names more rows mid_rows new_rows first second old new t after =
     let mid = changes_more old cs c new after in
     second mid.0 new (first old mid.0 t mid.1) mid.2
+
+-- the changes that were made, behind which these are left
+pub record AreMade (o : Terminology) (all left : List NamedChange) (names : List (List ℕ)) (rows : List Row) (more : List (List ℕ)) (new_rows : List Row) : Type 0 where
+  pub made : List NamedChange
+  pub parts : all ≡ made ++ left
+  pub few_names : length more ≤ length names + 2 * length made
+  pub named : All (λ c. IsNamedBy o c.row) made
+  pub follow : FollowsChanges o made names rows more new_rows
+
+pub one_made : (o : Terminology) (all left : List NamedChange) (c : NamedChange) (names mid_names more : List (List ℕ)) (rows mid_rows new_rows : List Row) → AreMade o all (c ∷ left) names rows mid_names mid_rows
+    → length more ≤ 2 + length mid_names → IsNamedBy o c.row → FollowsChange o c mid_names mid_rows more new_rows → AreMade o all left names rows more new_rows
+one_made o all left c names mid_names more rows mid_rows new_rows m few named follow = record {
+  made = m.made ++ c ∷ [];
+  parts = m.parts ∙ sym (append_assoc m.made (c ∷ []) left);
+  few_names = omega (arith, m.few_names, few, length-append m.made (c ∷ []));
+  named = All-push (λ d. IsNamedBy o d.row) m.made c m.named named;
+  follow = follows_more o m.made c names mid_names more rows mid_rows new_rows m.follow follow;
+}
 
 -- one of the changes more
 pub follows_item : (o : Terminology) (cs : List NamedChange) (i : ℕ) (c : NamedChange) (names mid_names more : List (List ℕ)) (rows mid_rows new_rows : List Row) → i < length cs → c ≡ get_or cs i c

@@ -1,21 +1,17 @@
 -- Rows that are listed individual by individual.
-use Rattle.std.proofs.Common.{◌≡◌, ◌≢◌, ℕ, ◌+◌, ◌<◌, ◌≤◌, ◌⊎◌, ◌↔◌, inl, inr, Bool, true, false, List, [], ◌∷◌, ◌++◌, AllPairs, Contains, Option, Some, None, get_or, refl, sym, ◌∙◌, ap, subst, arith}
-use Rattle.std.specs.Prelude.{if◌then◌else◌, nat_lt}
-use Rattle.std.specs.declared.cmp.Ordering.{Ordering}
-use Rattle.std.specs.declared.cmp.Ordering.TheVariants.{Less, Equal, Greater}
-use Rattle.std.specs.Ordering.{is_lt}
-use Rattle.std.proofs.lemmas.Bool.Decides.{nat_tests}
-use Rattle.std.proofs.lemmas.Cmp.{tied_itself}
+use Rattle.std.proofs.Common.{◌≡◌, ◌≢◌, ℕ, ◌<◌, ◌⊎◌, ◌↔◌, inl, inr, List, [], ◌∷◌, ◌++◌, AllPairs, Contains, Option, Some, None, get_or, length, refl, sym, ◌∙◌, ap, subst, arith, append_assoc, length-append}
+use Rattle.std.proofs.Math.ListN.{get_or-append}
+use Rattle.std.proofs.Math.Seq.{get_or-append_seam}
+use Rattle.std.proofs.lemmas.List.{append-nil}
 use Rattle.std.proofs.lemmas.List.Elements.{Contains-append_left, Contains-push}
 use Rattle.std.proofs.lemmas.List.Quantifiers.{all_pairs_push}
 use Rattle.std.proofs.lemmas.Option.{slice_get-get_or}
-use Rattle.assert_tables.specs.Rows.{IsNextIndividual, IsNextOf, IsNumberAbove, IsRowBehind, first_of, individuals_of}
-use Rattle.assert_tables.proofs.LeftLemmas.{above_on, behind_on, behind_or_not}
-use Rattle.dl_base.specs.Rows.{numbered_row_cmp}
+use Rattle.assert_tables.specs.Naming.{AreRowsNaming}
+use Rattle.assert_tables.specs.Rows.{IsNextIndividual, IsNumberAbove, first_of}
+use Rattle.assert_tables.proofs.LeftLemmas.{above_on}
 use Rattle.dl_base.specs.declared.row.Row.{Row}
 use Rattle.dl_base.proofs.PlaceLemmas.{member_at}
-use Rattle.dl_base.proofs.RisingLemmas.{contains_cases}
-use Rattle.dl_base.proofs.RowLemmas.{contains_cut, numbered_same, numbered_total}
+use Rattle.dl_base.proofs.RowLemmas.{contains_cut}
 use Rattle.base_store.specs.Loading.{IsListOf, ListsFrom, ListsRow}
 
 -- ---- distinct rows
@@ -27,85 +23,85 @@ distinct_push list r distinct new = all_pairs_push (λ x y. x ≢ y) list r dist
 
 -- ---- the rows of one individual
 
--- of the rows whose first individual this is, those that aren't behind that one were listed
-pub record ListsUpTo (n : ℕ) (rows : List Row) (after : Option Row) (old list : List Row) : Type 0 where
-  pub each : (r : Row) → Contains list r ↔ (((first_of r ≡ n) × Contains rows r × (IsRowBehind after r → ⊥)) ⊎ Contains old r)
+-- the first ones of these rows were gone over, and of them those whose first individual this is were listed
+pub record ListsSome (n : ℕ) (these left old list : List Row) : Type 0 where
+  pub over : List Row
+  pub parts : these ≡ over ++ left
+  pub each : (r : Row) → Contains list r ↔ (((first_of r ≡ n) × Contains over r) ⊎ Contains old r)
   pub once : AllPairs (λ x y. x ≢ y) old → ((r : Row) → Contains old r → first_of r ≢ n) → AllPairs (λ x y. x ≢ y) list
 
-pub lists_none : (n : ℕ) (rows old : List Row) → ListsUpTo n rows None old old
-lists_none n rows old = record {
-  each = λ r. (λ c. inr c, λ either. elim either [ inl h ↦ absurd (h.2 tt) | inr c ↦ c ]);
-  once = λ distinct none. distinct;
-}
+-- no row of a distinct list stands twice
+stands_once : (front back : List Row) (r : Row) → AllPairs (λ x y. x ≢ y) (front ++ r ∷ back) → Contains front r → ⊥
+stands_once front back r distinct there =
+    distinct there.0 (length front) r there.1 (omega (arith, length-append front (r ∷ back)))
+    (get_or-append front (r ∷ back) r there.0 there.1 ∙ there.2 ∙ sym (get_or-append_seam front r back r))
 
-module _ (n : ℕ) (rows : List Row) (after : Option Row) (r : Row) (old list new : List Row) (next : IsNextOf rows n after (Some r)) (far : ListsUpTo n rows after old list) where
-  not_behind_itself : IsRowBehind (Some r) r → ⊥
-  not_behind_itself e = absurd (let f = tied_itself numbered_total r in cc)
-
-  -- a row up to this one was listed, or is this one
-  upto : (x : Row) → first_of x ≡ n → Contains rows x → (IsRowBehind (Some r) x → ⊥) → (x ≡ r) ⊎ Contains list x
-  upto x first there not_less = elim (behind_or_not after x) [
-    | inr not ↦ inr ((far.each x).1 (inl (first, there, not)))
-    | inl behind ↦ by behind (numbered_row_cmp r x) refl
-  ]
-    where
-      by : IsRowBehind after x → (o : Ordering) → numbered_row_cmp r x ≡ o → (x ≡ r) ⊎ Contains list x
-      by behind Less e = absurd (not_less e)
-      by behind Equal e = inl (sym (numbered_same r x e))
-      by behind Greater e = absurd (next.3 x there (inl (sym first)) behind e)
-
-  still : (x : Row) → Contains list x → ((first_of x ≡ n) × Contains rows x × (IsRowBehind (Some r) x → ⊥)) ⊎ Contains old x
-  still x c = elim ((far.each x).0 c) [
-    | inl h ↦ inl (h.0, h.1, λ less. h.2 (behind_on after r x next.2 less))
-    | inr o ↦ inr o
-  ]
+module _ (n : ℕ) (these : List Row) (r : Row) (left old list new : List Row) (distinct : AllPairs (λ x y. x ≢ y) these) (far : ListsSome n these (r ∷ left) old list) where
+  new_row : Contains far.over r → ⊥
+  new_row = stands_once far.over left r (subst (AllPairs (λ x y. x ≢ y)) far.parts distinct)
 
   absent : first_of r ≡ n → ((x : Row) → Contains old x → first_of x ≢ n) → Contains list r → ⊥
-  absent first none c = elim ((far.each r).0 c) [ inl h ↦ h.2 next.2 | inr o ↦ none r o first ]
+  absent first none c = elim ((far.each r).0 c) [ inl h ↦ new_row h.1 | inr o ↦ none r o first ]
 
-  listed : first_of r ≡ n → ListsUpTo n rows (Some r) old (list ++ r ∷ [])
+  one_further : these ≡ (far.over ++ r ∷ []) ++ left
+  one_further = far.parts ∙ sym (append_assoc far.over (r ∷ []) left)
+
+  still : (x : Row) → Contains list x → ((first_of x ≡ n) × Contains (far.over ++ r ∷ []) x) ⊎ Contains old x
+  still x c = elim ((far.each x).0 c) [ inl h ↦ inl (h.0, Contains-append_left far.over (r ∷ []) x h.1) | inr o ↦ inr o ]
+
+  listed : first_of r ≡ n → ListsSome n these left old (list ++ r ∷ [])
   listed first = record {
+    over = far.over ++ r ∷ [];
+    parts = one_further;
     each = λ x. (
       λ c. elim (contains_cut list r x c) [
-        | inl e ↦ inl (ap first_of e ∙ first, subst (Contains rows) (sym e) next.0, λ less. not_behind_itself (subst (IsRowBehind (Some r)) e less))
+        | inl e ↦ inl (ap first_of e ∙ first, subst (Contains (far.over ++ r ∷ [])) (sym e) (Contains-push far.over r))
         | inr d ↦ still x d
       ],
       λ either. elim either [
-        | inl h ↦ elim (upto x h.0 h.1 h.2) [ inl e ↦ subst (Contains (list ++ r ∷ [])) (sym e) (Contains-push list r) | inr d ↦ Contains-append_left list (r ∷ []) x d ]
+        | inl h ↦ elim (contains_cut far.over r x h.1) [
+          | inl e ↦ subst (Contains (list ++ r ∷ [])) (sym e) (Contains-push list r)
+          | inr d ↦ Contains-append_left list (r ∷ []) x ((far.each x).1 (inl (h.0, d)))
+        ]
         | inr o ↦ Contains-append_left list (r ∷ []) x ((far.each x).1 (inr o))
       ],
     );
     once = λ distinct none. distinct_push list r (far.once distinct none) (absent first none);
   }
 
-  passed : first_of r ≢ n → ListsUpTo n rows (Some r) old list
+  passed : first_of r ≢ n → ListsSome n these left old list
   passed other = record {
+    over = far.over ++ r ∷ [];
+    parts = one_further;
     each = λ x. (
       λ c. still x c,
       λ either. elim either [
-        | inl h ↦ elim (upto x h.0 h.1 h.2) [ inl e ↦ absurd (other (ap first_of (sym e) ∙ h.0)) | inr d ↦ d ]
+        | inl h ↦ elim (contains_cut far.over r x h.1) [ inl e ↦ absurd (other (ap first_of (sym e) ∙ h.0)) | inr d ↦ (far.each x).1 (inl (h.0, d)) ]
         | inr o ↦ (far.each x).1 (inr o)
       ],
     );
     once = far.once;
   }
 
-  pub lists_more : ListsRow n r list new → ListsUpTo n rows (Some r) old new
-  lists_more (inl h) = subst (ListsUpTo n rows (Some r) old) (sym h.1) (listed h.0)
-  lists_more (inr h) = subst (ListsUpTo n rows (Some r) old) (sym h.1) (passed h.0)
+  pub lists_more : ListsRow n r list new → ListsSome n these left old new
+  lists_more (inl h) = subst (ListsSome n these left old) (sym h.1) (listed h.0)
+  lists_more (inr h) = subst (ListsSome n these left old) (sym h.1) (passed h.0)
 
--- behind the last row of the individual all were listed
-pub lists_all : (n : ℕ) (rows : List Row) (after : Option Row) (old list : List Row) → IsNextOf rows n after None → ListsUpTo n rows after old list → ListsFrom n rows old list
-lists_all n rows after old list none far = record {
+-- all rows that name the individual were gone over
+pub lists_all : (n : ℕ) (rows these old list : List Row) → AreRowsNaming rows n these → ListsSome n these [] old list → ListsFrom n rows old list
+lists_all n rows these old list naming far = record {
   each = λ x. (
-    λ c. elim ((far.each x).0 c) [ inl h ↦ inl (h.0, h.1) | inr o ↦ inr o ],
+    λ c. elim ((far.each x).0 c) [ inl h ↦ inl (h.0, ((naming.each x).0 (subst (λ (rs : List Row). Contains rs x) all h.1)).0) | inr o ↦ inr o ],
     λ either. (far.each x).1 (elim either [
-      | inl h ↦ inl (h.0, h.1, none x h.1 (inl (sym h.0)))
+      | inl h ↦ inl (h.0, subst (λ (rs : List Row). Contains rs x) (sym all) ((naming.each x).1 (h.1, inl (sym h.0))))
       | inr o ↦ inr o
     ]),
   );
   once = far.once;
 }
+  where
+    all : far.over ≡ these
+    all = sym (append-nil far.over) ∙ sym far.parts
 
 -- ---- all individuals
 

@@ -1,6 +1,6 @@
 -- What an entry makes of what is kept.
 use Rattle.std.proofs.Common.{◌≡◌, ◌≤◌, ◌+◌, ◌*◌, ℕ, Bool, true, false, List, [], ◌∷◌, ◌++◌, All, length, length-append, map, None, Some, refl, sym, ◌∙◌, ap, subst, arith}
-use Rattle.std.specs.Prelude.{◌↔◌, IfOk, IsTrue, MatchBool, Result, Ok, Err, sum_by}
+use Rattle.std.specs.Prelude.{◌↔◌, IfOk, IsTrue, OnOk, MatchBool, Result, Ok, Err, sum_by}
 use Rattle.std.proofs.lemmas.List.{length-map}
 use Rattle.std.proofs.lemmas.List.Sums.{sum_by-append}
 use Rattle.assert_tables.specs.Rows.{AreRisingRows}
@@ -9,6 +9,9 @@ use Rattle.dl_base.specs.Ontology.{Terminology, IsTerminology}
 use Rattle.dl_base.specs.declared.row.NamedChange.{NamedChange}
 use Rattle.dl_base.specs.declared.row.Row.{Row}
 use Rattle.txn_codec.specs.Changes.{changes_payload}
+use Rattle.txn_codec.specs.Fault.{NamesChangesFault}
+use Rattle.txn_codec.specs.declared.fault.CodecError.{CodecError}
+use Rattle.txn_codec.specs.declared.fault.CodecError.TheVariants.{Bad, NoMemory}
 use Rattle.txn_codec.specs.OntologyPayload.{ontology_payload}
 use Rattle.txn_codec.specs.Spelling.{changes_bytes, ontology_bytes}
 use Rattle.grammar.specs.Grammar.{Contains}
@@ -40,6 +43,22 @@ judged o before cs names rows true is rises short named has few = record {
 }
 judged o before cs names rows false is rises short named has few =
     λ next. next.fits (many_crowded o (before ++ cs ∷ []) names rows is rises has (λ are. absurd (let e : false ≡ true = few.1 are in cc)))
+
+-- the same where memory may have run out while the rows were counted
+pub judged_unless : {E : Type 0} (o : Terminology) (before : List (List NamedChange)) (cs : List NamedChange) (names : List (List ℕ)) (rows same : List Row) (few : Result Bool E)
+    → IsTerminology o → length cs ≤ 10000 → All (λ c. IsNamedBy o c.row) cs → HasRows (Over o (before ++ cs ∷ [])) names rows
+    → IfOk few (λ b. IsTrue b ↔ AreFew rows) → OnOk few (same ≡ rows) → OnOk few (AreRisingRows same)
+    → IfOk few (λ legal. MatchBool legal (FollowsNext o before cs names same) (IsNextTransaction o before cs → ⊥))
+judged_unless o before cs names rows same (Err e) is short named has few stays rises = tt
+judged_unless o before cs names rows same (Ok b) is short named has few stays rises =
+    let P : List Row → Type 0 = λ xs. HasRows (Over o (before ++ cs ∷ [])) names xs × (IsTrue b ↔ AreFew xs) in
+    let there : P same = subst P (sym stays) (has, few) in
+    judged o before cs names same b is rises short named there.0 there.1
+
+-- bytes that have a fault are the payload of no changes
+pub no_changes : (payload : List ℕ) (error : CodecError) → NamesChangesFault payload error → (changes : List NamedChange) → changes_payload payload changes → ⊥
+no_changes payload (Bad at) fault changes is = fault.outside (changes, is)
+no_changes payload NoMemory fault changes is = fault
 
 -- the one list of changes that the bytes are the payload of
 pub taken_payload : {E : Type 0} (payload : List ℕ) (o : Terminology) (before : List (List NamedChange)) (cs : List NamedChange) (names more : List (List ℕ)) (rows : List Row) (result : Result Bool E)

@@ -23,10 +23,8 @@ pub fn listed(alloc: Global, rows: &Assertions) -> Result<RowList, AllocError>
 fn list_from(individual: u32, rows: &Assertions, list: &mut RowList) -> Result<(), AllocError>
     ensures { OnOk result (ListsFrom individual rows.now list.old list.new) }
 {
-    let mut after = None;
-    while let Some(row) = rows.next_of(individual, after) {
+    for row in rows.rows_naming(individual) {
         list_row(individual, row, list)?;
-        after = Some(row);
     }
     Ok(())
 }

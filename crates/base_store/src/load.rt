@@ -113,13 +113,13 @@ impl Store {
 fn into_loaded(alloc: Global, loading: Loading) -> Result<Loaded, AllocError>
     ensures { IfOk result (HasAllOf loading) }
 {
-    let rows = listed(alloc, &loading.rows)?;
     let Loading {
         ontology,
         individuals,
+        rows,
         transactions,
-        ..
     } = loading;
+    let rows = listed(alloc, &rows.into_rows()?)?;
     Ok(Loaded {
         ontology,
         individuals,

@@ -8,12 +8,17 @@ use std::test::Fail;
 const AREA: [u8; 48] =
     *b"\x01OBDA\x00\x00\x00\x01\x00\x00\x00\x00\x00\x00\x00\x01\x01\x01\x00\x00\x00\x08\x00\x01\x01A\x00\x00\x00\x00\x01\x02\x00\x00\x00\x0a\x00\x00\x00\x01\x01\x02\x01A\x01a\x00";
 
-// The payloads of the ontology of A, and of transactions: A(a) comes and goes; it comes twice; B(a) comes.
+// The payloads of the ontology of A, and of transactions: A(a) comes and goes; it comes twice; it comes; it goes; B(a)
+// comes.
 const ONTOLOGY: &[u8] = b"\x00\x01\x01A\x00\x00\x00\x00";
 
 const COMES_AND_GOES: &[u8] = b"\x00\x00\x00\x02\x01\x02\x01A\x01a\x00\x02\x01A\x01a";
 
 const COMES_TWICE: &[u8] = b"\x00\x00\x00\x02\x01\x02\x01A\x01a\x01\x02\x01A\x01a";
+
+const COMES: &[u8] = b"\x00\x00\x00\x01\x01\x02\x01A\x01a";
+
+const GOES: &[u8] = b"\x00\x00\x00\x01\x00\x02\x01A\x01a";
 
 const OF_ANOTHER: &[u8] = b"\x00\x00\x00\x01\x01\x02\x01B\x01a";
 
@@ -142,6 +147,27 @@ fn entries(rt: HostRuntime) -> Result<(), Fail> {
     assert_eq!(rt; loading(alloc, &ontology_twice)?, Seen::Damaged(31));
     let transaction_first = area_of(alloc, &[(2, COMES_TWICE)])?;
     assert_eq!(rt; loading(alloc, &transaction_first)?, Seen::Damaged(17));
+    Ok(())
+}
+
+#[test]
+fn a_row_that_comes_again(rt: HostRuntime) -> Result<(), Fail> {
+    let alloc = rt.alloc();
+    let again = [
+        (1u8, ONTOLOGY),
+        (2, COMES),
+        (2, GOES),
+        (2, COMES),
+        (2, GOES),
+    ];
+    for (transactions, rows) in [(1usize, 1usize), (2, 0), (3, 1), (4, 0)] {
+        let entries = again.len().min(transactions.saturating_add(1));
+        let area = area_of(alloc, &again[..entries])?;
+        assert_eq!(rt;
+            loading(alloc, &area)?,
+            Seen::History(true, rows, transactions as u64)
+        );
+    }
     Ok(())
 }
 

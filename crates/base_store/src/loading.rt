@@ -1,21 +1,25 @@
 // What the entries of a log come to while they are read.
-ghost use Rattle.std.specs.Prelude.{◌≡◌, ◌≤◌, ◌+◌, ◌*◌, ◌↔◌, ℕ, [], true, false, List, All, IfOk, IsTrue, MatchBool, MatchOption, OnOk, length};
+ghost use Rattle.std.specs.Prelude.{◌≡◌, ◌<◌, ◌≤◌, ◌+◌, ◌*◌, ◌↔◌, ℕ, [], true, false, List, All, IfOk, IsTrue, MatchBool, MatchOption, OnOk, length};
 ghost use Rattle.assert_tables.specs.Rows.{AreRisingRows};
 ghost use Rattle.dl_base.specs.Axiom.{with_names};
+ghost use Rattle.dl_base.specs.Book.{Interns};
 ghost use Rattle.dl_base.specs.Numbers.{IsPlaceOf, NumbersRow, names_in};
 ghost use Rattle.dl_base.specs.Ontology.{Terminology, IsTerminology};
 ghost use Rattle.dl_base.specs.declared.row.NamedChange.{NamedChange as AnyChange};
 ghost use Rattle.dl_base.specs.declared.row.Row.{Row as AnyRow};
 ghost use Rattle.txn_codec.specs.Changes.{changes_payload};
+ghost use Rattle.txn_codec.specs.ChangeView.{change_of, row_of};
 ghost use Rattle.base_store.specs.History.{Empty, History, Over, used};
 ghost use Rattle.base_store.specs.Legal.{Continues, IsNamedBy, IsNextTransaction};
 ghost use Rattle.base_store.specs.Loaded.{HasRows};
 ghost use Rattle.base_store.specs.Loading.{AreFew, FollowsChange, FollowsChanges, FollowsNext, Keeps, KeepsNext, TakesPayload};
 
-use assert_tables::Assertions;
-use dl_base::{NameBook, NamedChange, NamedRow, Ontology, Row};
+use assert_tables::GatheredRows;
+use dl_base::{NameBook, NamedRow, Ontology, Row};
 use std::alloc::{AllocError, Global};
-use txn_codec::{CodecError, count_of_changes, read_changes, read_ontology};
+use txn_codec::{
+    ChangeReader, ChangeView, CodecError, NameSlice, RowView, count_of_changes, read_ontology,
+};
 
 /// The ontology, the rows by number, the book of their individuals and the number of transactions, behind the entries that
 /// were taken.
@@ -23,7 +27,7 @@ use txn_codec::{CodecError, count_of_changes, read_changes, read_ontology};
 pub struct Loading {
     pub ontology: Option<Ontology>,
     pub individuals: NameBook,
-    pub rows: Assertions,
+    pub rows: GatheredRows,
     pub transactions: u64,
 }
 
@@ -35,7 +39,7 @@ impl Loading {
         Loading {
             ontology: None,
             individuals: NameBook::new(alloc),
-            rows: Assertions::new(alloc),
+            rows: GatheredRows::new(alloc),
             transactions: 0,
         }
     }
@@ -83,7 +87,7 @@ fn take_transaction(
     alloc: Global,
     ontology: &Ontology,
     individuals: &mut NameBook,
-    rows: &mut Assertions,
+    rows: &mut GatheredRows,
     payload: &[u8],
 ) -> Result<bool, AllocError>
     requires { length individuals.old ≤ 3000000000 }
@@ -95,10 +99,9 @@ fn take_transaction(
     if !is_short(payload) {
         return Ok(false);
     }
-    match read_changes(alloc, payload) {
-        Ok(changes) => take_changes(ontology, individuals, rows, changes.items()),
-        Err(CodecError::Bad(_)) => Ok(false),
-        Err(CodecError::NoMemory) => Err(AllocError),
+    match ChangeReader::new(payload) {
+        Ok(changes) => take_changes(alloc, ontology, individuals, rows, changes),
+        Err(_) => Ok(false),
     }
 }
 
@@ -116,53 +119,59 @@ fn is_short(payload: &[u8]) -> bool
 
 /// Makes so few changes, and answers whether they are legal behind the transactions before.
 fn take_changes(
+    alloc: Global,
     ontology: &Ontology,
     individuals: &mut NameBook,
-    rows: &mut Assertions,
-    changes: &[NamedChange],
+    rows: &mut GatheredRows,
+    changes: ChangeReader<'_>,
 ) -> Result<bool, AllocError>
-    requires few { length changes.now ≤ 10000 }
+    requires few { length changes ≤ 10000 }
     requires names { length individuals.old ≤ 3000000000 }
-    ensures names { IfOk result (λ legal. length individuals.new ≤ length individuals.old + 2 * length changes.now) }
+    ensures names { IfOk result (λ legal. length individuals.new ≤ length individuals.old + 2 * length changes.entry) }
     ensures taken { (before : List (List AnyChange)) → HasRows (Over ontology.now before) individuals.old rows.old
         → IfOk result (λ legal. MatchBool legal
-        (FollowsNext ontology.now before changes.now individuals.new rows.new)
-        (IsNextTransaction ontology.now before changes.now → ⊥)) }
+        (FollowsNext ontology.now before changes.entry individuals.new rows.new)
+        (IsNextTransaction ontology.now before changes.entry → ⊥)) }
 {
-    if !make_all(ontology, individuals, rows, changes)? {
+    if !make_all(alloc, ontology, individuals, rows, changes)? {
         return Ok(false);
     }
     // An ontology says of itself that its names are distinct.
     let _ = ontology.concepts();
-    Ok(are_few(rows))
+    are_few(rows)
 }
 
 /// Whether the rows are within the limits.
-fn are_few(rows: &Assertions) -> bool
-    ensures few { IsTrue result ↔ AreFew rows.now }
-    ensures rising { AreRisingRows rows.now }
+fn are_few(rows: &mut GatheredRows) -> Result<bool, AllocError>
+    ensures few { IfOk result (λ few. IsTrue few ↔ AreFew rows.old) }
+    ensures rows { OnOk result (rows.new ≡ rows.old) }
+    ensures rising { OnOk result (AreRisingRows rows.new) }
 {
-    rows.rows() <= 1_000_000 && rows.individuals() <= 65_536
+    if !rows.has_at_most(1_000_000)? {
+        return Ok(false);
+    }
+    rows.name_at_most(65_536)
 }
 
 /// Makes the changes in order, and answers whether the ontology has the concept or the role of each. The first one of
 /// which it hasn't ends them.
 fn make_all(
+    alloc: Global,
     ontology: &Ontology,
     individuals: &mut NameBook,
-    rows: &mut Assertions,
-    changes: &[NamedChange],
+    rows: &mut GatheredRows,
+    changes: ChangeReader<'_>,
 ) -> Result<bool, AllocError>
-    requires few { length changes.now ≤ 10000 }
+    requires few { length changes ≤ 10000 }
     requires names { length individuals.old ≤ 3000000000 }
-    ensures names { IfOk result (λ named. length individuals.new ≤ length individuals.old + 2 * length changes.now) }
+    ensures names { IfOk result (λ named. length individuals.new ≤ length individuals.old + 2 * length changes.entry) }
     ensures made { IfOk result (λ named. MatchBool named
-        (FollowsChanges ontology.now changes.now individuals.old rows.old individuals.new rows.new)
-        (All (λ c. IsNamedBy ontology.now c.row) changes.now → ⊥)) }
-    ensures named { IfOk result (λ named. IsTrue named → All (λ c. IsNamedBy ontology.now c.row) changes.now) }
+        (FollowsChanges ontology.now changes.entry individuals.old rows.old individuals.new rows.new)
+        (All (λ c. IsNamedBy ontology.now c.row) changes.entry → ⊥)) }
+    ensures named { IfOk result (λ named. IsTrue named → All (λ c. IsNamedBy ontology.now c.row) changes.entry) }
 {
     for change in changes {
-        if !make(ontology, individuals, rows, change)? {
+        if !make(alloc, ontology, individuals, rows, &change)? {
             return Ok(false);
         }
     }
@@ -171,25 +180,27 @@ fn make_all(
 
 /// Makes a change, and answers whether the ontology has its concept or role.
 fn make(
+    alloc: Global,
     ontology: &Ontology,
     individuals: &mut NameBook,
-    rows: &mut Assertions,
-    change: &NamedChange,
+    rows: &mut GatheredRows,
+    change: &ChangeView<'_>,
 ) -> Result<bool, AllocError>
     requires { length individuals.old ≤ 3900000000 }
     ensures names { OnOk result (length individuals.new ≤ 2 + length individuals.old) }
     ensures made { IfOk result (λ named. MatchBool named
-        (IsNamedBy ontology.now change.now.row)
-        (IsNamedBy ontology.now change.now.row → ⊥)) }
-    ensures follows { IfOk result (λ named. IsTrue named → FollowsChange ontology.now change.now individuals.old rows.old individuals.new rows.new) }
+        (IsNamedBy ontology.now (row_of change.now.row))
+        (IsNamedBy ontology.now (row_of change.now.row) → ⊥)) }
+    ensures follows { IfOk result (λ named. IsTrue named
+        → FollowsChange ontology.now (change_of change.now) individuals.old rows.old individuals.new rows.new) }
 {
-    let Some(place) = place_of(ontology, &change.row) else {
+    let Some(place) = place_in(ontology, &change.row) else {
         return Ok(false);
     };
     if change.add {
-        add_row(place, individuals, rows, &change.row)?;
+        add_row(alloc, place, individuals, rows, &change.row)?;
     } else {
-        remove_row(place, individuals, rows, &change.row);
+        remove_row(place, individuals, rows, &change.row)?;
     }
     Ok(true)
 }
@@ -205,66 +216,105 @@ pub fn place_of(ontology: &Ontology, row: &NamedRow) -> Option<u32>
     }
 }
 
+/// The same of a row whose names stand in a payload.
+fn place_in(ontology: &Ontology, row: &RowView<'_>) -> Option<u32>
+    ensures is { MatchOption result (IsNamedBy ontology.now (row_of row.now) → ⊥) (λ place. IsPlaceOf ontology.now (row_of row.now) place) }
+    ensures within { IsTerminology ontology.now }
+{
+    match row {
+        RowView::Concept { concept, .. } => ontology.concepts().find(concept.bytes()),
+        RowView::Role { role, .. } => ontology.roles().find(role.bytes()),
+    }
+}
+
 /// Adds the row, whose concept or role has this place.
 fn add_row(
+    alloc: Global,
     place: u32,
     individuals: &mut NameBook,
-    rows: &mut Assertions,
-    row: &NamedRow,
+    rows: &mut GatheredRows,
+    row: &RowView<'_>,
 ) -> Result<(), AllocError>
     requires { length individuals.old ≤ 3900000000 }
     ensures names { OnOk result (length individuals.new ≤ 2 + length individuals.old) }
-    ensures added { (o : Terminology) → IsPlaceOf o row.now place
-        → OnOk result (FollowsChange o (record { add = true; row = row.now }) individuals.old rows.old individuals.new rows.new) }
+    ensures added { (o : Terminology) → IsPlaceOf o (row_of row.now) place
+        → OnOk result (FollowsChange o (record { add = true; row = row_of row.now }) individuals.old rows.old individuals.new rows.new) }
 {
-    let row = number(place, individuals, row)?;
+    let row = number(alloc, place, individuals, row)?;
     rows.add(row)?;
     let _ = individuals.len();
     Ok(())
 }
 
 /// Removes the row, whose concept or role has this place, where it is there.
-fn remove_row(place: u32, individuals: &NameBook, rows: &mut Assertions, row: &NamedRow)
-    ensures { (o : Terminology) → IsTerminology o → IsPlaceOf o row.now place
-        → FollowsChange o (record { add = false; row = row.now }) individuals.now rows.old individuals.now rows.new }
+fn remove_row(
+    place: u32,
+    individuals: &NameBook,
+    rows: &mut GatheredRows,
+    row: &RowView<'_>,
+) -> Result<(), AllocError>
+    ensures { (o : Terminology) → IsTerminology o → IsPlaceOf o (row_of row.now) place
+        → OnOk result (FollowsChange o (record { add = false; row = row_of row.now }) individuals.now rows.old individuals.now rows.new) }
 {
-    if let Some(row) = known(place, individuals, row) {
-        rows.del(row);
+    match known(place, individuals, row) {
+        Some(row) => rows.del(row),
+        None => Ok(()),
     }
 }
 
 /// The row by numbers, of which new individuals get the next ones.
-fn number(place: u32, individuals: &mut NameBook, row: &NamedRow) -> Result<Row, AllocError>
+fn number(
+    alloc: Global,
+    place: u32,
+    individuals: &mut NameBook,
+    row: &RowView<'_>,
+) -> Result<Row, AllocError>
     requires { length individuals.old ≤ 3900000000 }
-    ensures names { OnOk result (individuals.new ≡ with_names individuals.old (names_in row.now)) }
+    ensures names { OnOk result (individuals.new ≡ with_names individuals.old (names_in (row_of row.now))) }
     ensures few { OnOk result (length individuals.new ≤ 2 + length individuals.old) }
-    ensures numbers { (o : Terminology) → IsPlaceOf o row.now place → IfOk result (NumbersRow o individuals.new row.now) }
+    ensures numbers { (o : Terminology) → IsPlaceOf o (row_of row.now) place → IfOk result (NumbersRow o individuals.new (row_of row.now)) }
 {
     match row {
-        NamedRow::Concept { individual, .. } => Ok(Row::Concept {
+        RowView::Concept { individual, .. } => Ok(Row::Concept {
             concept: place,
-            individual: individuals.intern(individual)?,
+            individual: intern(alloc, individuals, individual)?,
         }),
-        NamedRow::Role { from, to, .. } => Ok(Row::Role {
+        RowView::Role { from, to, .. } => Ok(Row::Role {
             role: place,
-            from: individuals.intern(from)?,
-            to: individuals.intern(to)?,
+            from: intern(alloc, individuals, from)?,
+            to: intern(alloc, individuals, to)?,
         }),
     }
 }
 
+/// The place of the individual in the book, where a new one goes last. Only a new one takes memory.
+fn intern(
+    alloc: Global,
+    individuals: &mut NameBook,
+    name: &NameSlice<'_>,
+) -> Result<u32, AllocError>
+    requires { length individuals.old < 4000000000 }
+    ensures { IfOk result (Interns individuals.old name.now individuals.new) }
+{
+    if let Some(place) = individuals.find(name.bytes()) {
+        return Ok(place);
+    }
+    let name = name.to_name(alloc)?;
+    individuals.intern(&name)
+}
+
 /// The row by numbers, where the book has its individuals.
-fn known(place: u32, individuals: &NameBook, row: &NamedRow) -> Option<Row>
-    ensures { (o : Terminology) → IsPlaceOf o row.now place → MatchOption result
-        ((n : AnyRow) → NumbersRow o individuals.now row.now n → ⊥)
-        (λ n. NumbersRow o individuals.now row.now n) }
+fn known(place: u32, individuals: &NameBook, row: &RowView<'_>) -> Option<Row>
+    ensures { (o : Terminology) → IsPlaceOf o (row_of row.now) place → MatchOption result
+        ((n : AnyRow) → NumbersRow o individuals.now (row_of row.now) n → ⊥)
+        (λ n. NumbersRow o individuals.now (row_of row.now) n) }
 {
     match row {
-        NamedRow::Concept { individual, .. } => Some(Row::Concept {
+        RowView::Concept { individual, .. } => Some(Row::Concept {
             concept: place,
             individual: individuals.find(individual.bytes())?,
         }),
-        NamedRow::Role { from, to, .. } => Some(Row::Role {
+        RowView::Role { from, to, .. } => Some(Row::Role {
             role: place,
             from: individuals.find(from.bytes())?,
             to: individuals.find(to.bytes())?,
