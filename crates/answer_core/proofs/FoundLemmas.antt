@@ -23,7 +23,7 @@ use Rattle.query_shape.proofs.NumberingLemmas.{firsts_distinct, firsts_from, fir
 use Rattle.join_ops.specs.Joins.{IsFixed}
 use Rattle.answer_core.specs.Keys.{IsNumbered, IsKeyOf}
 use Rattle.answer_core.specs.Binding.{BoundQuery, IsBoundTo, IsFixedTerm}
-use Rattle.answer_core.specs.Found.{AllStand, IsFoundKey, Spells, AreSpelled}
+use Rattle.answer_core.specs.Found.{HaveIndividuals, IsFoundKey, SpellsKey, AreSpelled}
 use Rattle.answer_core.proofs.KeyLemmas.{keys_are_certain}
 use Rattle.answer_core.proofs.ListLemmas.{at_place, zip_at, zip_back}
 
@@ -67,7 +67,7 @@ module _ (o : Terminology) (rows : List NamedRow) (names : List (List ℕ)) (gen
         image_at k.place b.shape.terms i found.0 found.1 ∙ ap Some (ap k.place name.1 ∙ (number.is ∙ ap elem.Named one))
 
     numbers_of_key : (vs : List (List ℕ)) (places : List ℕ) (key_names : List (List ℕ)) → AllZip (λ v n. slice_get b.shape.terms n ≡ Some (term.Var v)) vs places
-        → AllZip (λ v a. IsNumbered names (k.place (term.Var v)) a) vs key_names → (numbers : List ℕ) × AllStand images places (length names) numbers × Spells names numbers key_names
+        → AllZip (λ v a. IsNumbered names (k.place (term.Var v)) a) vs key_names → (numbers : List ℕ) × HaveIndividuals images places (length names) numbers × SpellsKey names numbers key_names
     numbers_of_key [] [] [] p s = ([], tt, tt)
     numbers_of_key [] (n ∷ ns) rest p s = absurd p
     numbers_of_key [] [] (a ∷ rest) p s = absurd s
@@ -78,14 +78,14 @@ module _ (o : Terminology) (rows : List NamedRow) (names : List (List ℕ)) (gen
         let others = numbers_of_key vs ns rest p.1 s.1 in
         (number.number ∷ others.0, ((image_at k.place b.shape.terms n (term.Var v) p.0 ∙ ap Some number.is, slice_get_within names number.number a number.at), others.1), (number.at, others.2))
 
-    found_of_key : (numbers : List ℕ) × IsFoundKey o rows names generation table b fixed (length names) numbers × Spells names numbers key
+    found_of_key : (numbers : List ℕ) × IsFoundKey o rows names generation table b fixed (length names) numbers × SpellsKey names numbers key
     found_of_key =
         let numbers = numbers_of_key q.answers b.answers key bound.answers k.answers in
         let lifts = (same_lifting o rows names generation q b.shape k.place terminology.distinct_concepts terminology.distinct_roles bound.shape).0 k.lifts in
         (numbers.0, record { images = images; match_is = match_of_key; lifts = lifts; fixed_are = fixed_of_key; reads = numbers.1 }, numbers.2)
 
   -- from a match
-  module _ (numbers : List ℕ) (found : IsFoundKey o rows names generation table b fixed (length names) numbers) (key : List (List ℕ)) (spells : Spells names numbers key) where
+  module _ (numbers : List ℕ) (found : IsFoundKey o rows names generation table b fixed (length names) numbers) (key : List (List ℕ)) (spells : SpellsKey names numbers key) where
     placing : (place : Term → Elem) × (map place b.shape.terms ≡ found.images)
     placing = each_placing b.shape.terms found.images (firsts_distinct bound.shape.terms_are) found.match_is.count
 
@@ -96,7 +96,7 @@ module _ (o : Terminology) (rows : List NamedRow) (names : List (List ℕ)) (gen
     is_numbered e n a is at = subst (λ (f : Elem). IsNumbered names f a) (sym is) at
 
     answers_of : (vs : List (List ℕ)) (places ns : List ℕ) (key_names : List (List ℕ)) → AllZip (λ v n. slice_get b.shape.terms n ≡ Some (term.Var v)) vs places
-        → AllStand found.images places (length names) ns → Spells names ns key_names → AllZip (λ v a. IsNumbered names (placing.0 (term.Var v)) a) vs key_names
+        → HaveIndividuals found.images places (length names) ns → SpellsKey names ns key_names → AllZip (λ v a. IsNumbered names (placing.0 (term.Var v)) a) vs key_names
     answers_of [] [] [] [] p r s = tt
     answers_of [] [] [] (a ∷ rest) p r s = absurd s
     answers_of [] [] (m ∷ ms) rest p r s = absurd r

@@ -19,8 +19,8 @@ use Rattle.dl_base.specs.Rows.{name_cmp}
 use Rattle.dl_base.proofs.PlaceLemmas.{map_contains, map_from, member_at, no_more, one_place, some_same, zip_left, zip_right}
 use Rattle.dl_base.proofs.RisingLemmas.{contains_first, contains_later, nat_same}
 use Rattle.dl_base.proofs.RowLemmas.{name_same}
-use Rattle.answer_core.specs.Found.{AreSpelled, Spells}
-use Rattle.answer_core.specs.Ranks.{AreInOrder, HasNumber, HasRank, IsInRow, IsNamedIn, names_by_rank, ranks_of}
+use Rattle.answer_core.specs.Found.{AreSpelled, SpellsKey}
+use Rattle.answer_core.specs.Ranks.{AreInOrder, HasNumber, HasRank, IsInRow, HasItsName, names_by_rank, ranks_of}
 use Rattle.answer_core.specs.declared.ranks.Ranked.{Ranked}
 use Rattle.answer_core.proofs.SpellLemmas.{spells_same}
 
@@ -41,7 +41,7 @@ sorted_order order sorted i j x y below at_i at_j less =
 
 module _ (names : List (List ℕ)) (order : List Ranked) (ranks : List ℕ) (distinct : AllPairs (λ x y. x ≢ y) names) (in_order : AreInOrder names order) where
   named_at : (k : ℕ) (e : Ranked) → slice_get order k ≡ Some e → slice_get names e.number ≡ Some e.name.now
-  named_at k e at = All-contains (IsNamedIn names) order e in_order.named (member_at order k e at)
+  named_at k e at = All-contains (HasItsName names) order e in_order.named (member_at order k e at)
 
   -- a rank leads to the name of its number
   by_rank : (n : ℕ) → HasRank order ranks n → slice_get (names_by_rank order) (slice_index ranks n) ≡ slice_get names n
@@ -50,7 +50,7 @@ module _ (names : List (List ℕ)) (order : List Ranked) (ranks : List ℕ) (dis
       let there : slice_get names n ≡ Some e.name.now = subst (λ (m : ℕ). slice_get names m ≡ Some e.name.now) is (named_at (slice_index ranks n) e at) in
       here ∙ sym there
 
-  spells_by_rank : (numbers : List ℕ) (key : List (List ℕ)) → AllByRecursion (HasRank order ranks) numbers → Spells (names_by_rank order) (ranks_of ranks numbers) key ↔ Spells names numbers key
+  spells_by_rank : (numbers : List ℕ) (key : List (List ℕ)) → AllByRecursion (HasRank order ranks) numbers → SpellsKey (names_by_rank order) (ranks_of ranks numbers) key ↔ SpellsKey names numbers key
   spells_by_rank [] [] all = (λ s. s, λ s. s)
   spells_by_rank [] (a ∷ key) all = (λ s. s, λ s. s)
   spells_by_rank (n ∷ ns) [] all = (λ s. s, λ s. s)
@@ -112,7 +112,7 @@ module _ (names : List (List ℕ)) (order : List Ranked) (ranks : List ℕ) (dis
       greater less = nat_list_cmp_total.antisymm a b ∙ ap ordering_reverse less
 
   -- so are keys
-  keys_by_rank : (ns ms : List ℕ) (k l : List (List ℕ)) → AllByRecursion (HasRank order ranks) ns → AllByRecursion (HasRank order ranks) ms → Spells names ns k → Spells names ms l
+  keys_by_rank : (ns ms : List ℕ) (k l : List (List ℕ)) → AllByRecursion (HasRank order ranks) ns → AllByRecursion (HasRank order ranks) ms → SpellsKey names ns k → SpellsKey names ms l
       → slice_cmp nat_cmp (ranks_of ranks ns) (ranks_of ranks ms) ≡ key_cmp k l
   keys_by_rank [] [] [] [] p q s t = refl
   keys_by_rank [] [] [] (b ∷ l) p q s t = absurd t
@@ -142,22 +142,22 @@ module _ (names : List (List ℕ)) (order : List Ranked) (ranks : List ℕ) (dis
     row_of : (row : List ℕ) → Contains rows row → IsRowOf found row
     row_of row c = let from = map_from (ranks_of ranks) found row ((same row).0 c) in (from.0, from.1, from.2, ranks_there from.0 from.1)
 
-    spelled_row : (row : List ℕ) (key : List (List ℕ)) → (r : IsRowOf found row) → Spells (names_by_rank order) row key → Spells names r.0 key
-    spelled_row row key r s = (spells_by_rank r.0 key r.3).0 (subst (λ (x : List ℕ). Spells (names_by_rank order) x key) r.2 s)
+    spelled_row : (row : List ℕ) (key : List (List ℕ)) → (r : IsRowOf found row) → SpellsKey (names_by_rank order) row key → SpellsKey names r.0 key
+    spelled_row row key r s = (spells_by_rank r.0 key r.3).0 (subst (λ (x : List ℕ). SpellsKey (names_by_rank order) x key) r.2 s)
 
-    rises : (row other : List ℕ) (key next : List (List ℕ)) → IsRowOf found row → IsRowOf found other → Spells (names_by_rank order) row key → Spells (names_by_rank order) other next
+    rises : (row other : List ℕ) (key next : List (List ℕ)) → IsRowOf found row → IsRowOf found other → SpellsKey (names_by_rank order) row key → SpellsKey (names_by_rank order) other next
         → slice_cmp nat_cmp row other ≡ Less → key_cmp key next ≡ Less
     rises row other key next r o s t less =
         sym (keys_by_rank r.0 o.0 key next r.3 o.3 (spelled_row row key r s) (spelled_row other next o t)) ∙ rw (r.2, o.2) at less
 
-    above : (row : List ℕ) (key : List (List ℕ)) → IsRowOf found row → Spells (names_by_rank order) row key → (rest : List (List ℕ)) (keys : List (List (List ℕ))) → AllByRecursion (IsRowOf found) rest
-        → AllZip (Spells (names_by_rank order)) rest keys → AllByRecursion (λ x. slice_cmp nat_cmp row x ≡ Less) rest → AllByRecursion (λ k. key_cmp key k ≡ Less) keys
+    above : (row : List ℕ) (key : List (List ℕ)) → IsRowOf found row → SpellsKey (names_by_rank order) row key → (rest : List (List ℕ)) (keys : List (List (List ℕ))) → AllByRecursion (IsRowOf found) rest
+        → AllZip (SpellsKey (names_by_rank order)) rest keys → AllByRecursion (λ x. slice_cmp nat_cmp row x ≡ Less) rest → AllByRecursion (λ k. key_cmp key k ≡ Less) keys
     above row key r s [] [] all zip less = tt
     above row key r s [] (k ∷ keys) all zip less = absurd zip
     above row key r s (x ∷ rest) [] all zip less = absurd zip
     above row key r s (x ∷ rest) (k ∷ keys) all zip less = (rises row x key k r all.0 s zip.0 less.0, above row key r s rest keys all.1 zip.1 less.1)
 
-    all_rise : (part : List (List ℕ)) (keys : List (List (List ℕ))) → AllByRecursion (IsRowOf found) part → AllZip (Spells (names_by_rank order)) part keys
+    all_rise : (part : List (List ℕ)) (keys : List (List (List ℕ))) → AllByRecursion (IsRowOf found) part → AllZip (SpellsKey (names_by_rank order)) part keys
         → IsStrictlySortedBy (slice_cmp nat_cmp) part → IsStrictlySortedBy key_cmp keys
     unfolding IsStrictlySortedBy
     all_rise [] [] all zip rising = tt
@@ -179,25 +179,25 @@ module _ (names : List (List ℕ)) (order : List Ranked) (ranks : List ℕ) (dis
         let r = row_of (get_or rows k d) (Contains-get_or rows k d below) in
         subst (All (λ r. r < length order)) (sym r.2) (ranks_within r.0 r.3)
 
-    pub are_spelled : (keys : List (List (List ℕ))) → IsStrictlySortedBy (slice_cmp nat_cmp) rows → AllZip (Spells (names_by_rank order)) rows keys → AreSpelled names found keys
+    pub are_spelled : (keys : List (List (List ℕ))) → IsStrictlySortedBy (slice_cmp nat_cmp) rows → AllZip (SpellsKey (names_by_rank order)) rows keys → AreSpelled names found keys
     are_spelled keys rising zip = record {
       rising = all_rise rows keys (all_rows rows (λ row c. c)) zip rising;
       members = λ key. (only key, each key);
     }
       where
-        only : (key : List (List ℕ)) → Contains keys key → (numbers : List ℕ) × Contains found numbers × Spells names numbers key
+        only : (key : List (List ℕ)) → Contains keys key → (numbers : List ℕ) × Contains found numbers × SpellsKey names numbers key
         only key c =
-            let row = zip_right (Spells (names_by_rank order)) rows keys zip key c in
+            let row = zip_right (SpellsKey (names_by_rank order)) rows keys zip key c in
             let r = row_of row.0 row.1 in
             (r.0, r.1, spelled_row row.0 key r row.2)
 
-        each : (key : List (List ℕ)) → (numbers : List ℕ) × Contains found numbers × Spells names numbers key → Contains keys key
+        each : (key : List (List ℕ)) → (numbers : List ℕ) × Contains found numbers × SpellsKey names numbers key → Contains keys key
         each key (numbers, there, s) =
-            let made = zip_left (Spells (names_by_rank order)) rows keys zip (ranks_of ranks numbers) ((same (ranks_of ranks numbers)).1 (map_contains (ranks_of ranks) found numbers there)) in
+            let made = zip_left (SpellsKey (names_by_rank order)) rows keys zip (ranks_of ranks numbers) ((same (ranks_of ranks numbers)).1 (map_contains (ranks_of ranks) found numbers there)) in
             let t = (spells_by_rank numbers made.0 (ranks_there numbers there)).0 made.2 in
             subst (Contains keys) (sym (spells_same names numbers made.0 key t s)) made.1
 
-    pub spelled_result : {E : Type 0} (result : Result (List (List (List ℕ))) E) → IsStrictlySortedBy (slice_cmp nat_cmp) rows → IfOk result (AllZip (Spells (names_by_rank order)) rows)
+    pub spelled_result : {E : Type 0} (result : Result (List (List (List ℕ))) E) → IsStrictlySortedBy (slice_cmp nat_cmp) rows → IfOk result (AllZip (SpellsKey (names_by_rank order)) rows)
         → IfOk result (AreSpelled names found)
     spelled_result (Ok keys) rising zip = are_spelled keys rising zip
     spelled_result (Err e) rising zip = tt

@@ -2,11 +2,11 @@
 use Rattle.std.proofs.Common.{◌≡◌, ◌↔◌, inl, inr, ℕ, zero, suc, ◌+◌, ◌<◌, List, [], ◌∷◌, ◌++◌, map, length, take, drop, set, get_or, option_map, Vec, Global, All, Contains, slice_get, Some, refl, sym, ◌∙◌, ap, subst, arith, add-one}
 use Rattle.std.specs.List.{AllZip}
 use Rattle.std.proofs.Math.Seq.{take-append_seam}
-use Rattle.std.proofs.lemmas.List.{append_assoc, length-map, map-append, take_more}
+use Rattle.std.proofs.lemmas.List.{append_assoc, map-append, take_more}
 use Rattle.std.proofs.lemmas.List.Elements.{All-contains, Contains-append_cases, Contains-append_left, Contains-append_right, Contains-push, Contains-push_cases}
-use Rattle.std.proofs.lemmas.Option.{get_or_from_slice_get, slice_get-map, slice_get_read}
-use Rattle.dl_base.proofs.PlaceLemmas.{member_at, place_of, some_same, something_at}
-use Rattle.answer_core.specs.Ranks.{IsInRow, rows_of}
+use Rattle.std.proofs.lemmas.Option.{slice_get-map, slice_get_read}
+use Rattle.dl_base.proofs.PlaceLemmas.{member_at, place_of, some_same}
+use Rattle.answer_core.specs.Ranks.{IsInRow, items_of}
 
 -- an item is at some place
 pub at_place : {X : Type 0} (xs : List X) (x : X) → Contains xs x → (k : ℕ) × (k < length xs) × (slice_get xs k ≡ Some x)
@@ -65,43 +65,36 @@ pub mapped_read : {A B : Type 0} (f : A → B) (xs : List A) (i : ℕ) (x : A) �
 mapped_read f xs i x below is = slice_get-map f xs i ∙ ap (option_map f) (slice_get_read xs (length xs) i x refl below is)
 
 -- what holds of each list in the vectors holds of that in one of them
-pub all_row : (P : List ℕ → Type 0) (rows : List (Vec ℕ Global)) (i : ℕ) (row : Vec ℕ Global) → All P (rows_of rows) → i < length rows → row ≡ get_or rows i row → P row.items
-all_row P rows i row all below is = All-contains P (rows_of rows) row.items all (member_at (rows_of rows) i row.items (mapped_read (λ (r : Vec ℕ Global). r.items) rows i row below is))
-
-pub rows_all : (P : List ℕ → Type 0) (rows : List (Vec ℕ Global)) → ((k : ℕ) (row : Vec ℕ Global) → k < length rows → slice_get rows k ≡ Some row → P row.items) → All P (rows_of rows)
-rows_all P rows each k d below =
-    let within : k < length rows = omega (arith, below, length-map rows (λ (r : Vec ℕ Global). r.items)) in
-    let row = something_at rows k within in
-    let at : slice_get (rows_of rows) k ≡ Some row.0.items = slice_get-map (λ (r : Vec ℕ Global). r.items) rows k ∙ ap (option_map (λ (r : Vec ℕ Global). r.items)) row.1 in
-    subst P (sym (get_or_from_slice_get (rows_of rows) k row.0.items d at)) (each k row.0 within row.1)
+pub all_row : (P : List ℕ → Type 0) (rows : List (Vec ℕ Global)) (i : ℕ) (row : Vec ℕ Global) → All P (items_of rows) → i < length rows → row ≡ get_or rows i row → P row.items
+all_row P rows i row all below is = All-contains P (items_of rows) row.items all (member_at (items_of rows) i row.items (mapped_read (λ (r : Vec ℕ Global). r.items) rows i row below is))
 
 -- the numbers of one more list
-pub in_rows_more : (keys : List (Vec ℕ Global)) (i : ℕ) (key : Vec ℕ Global) (numbers : List ℕ) → i < length keys → key ≡ get_or keys i key → ((n : ℕ) → Contains numbers n ↔ IsInRow (rows_of (take i keys)) n)
-    → (n : ℕ) → Contains (numbers ++ key.items) n ↔ IsInRow (rows_of (take (i + 1) keys)) n
+pub in_rows_more : (keys : List (Vec ℕ Global)) (i : ℕ) (key : Vec ℕ Global) (numbers : List ℕ) → i < length keys → key ≡ get_or keys i key → ((n : ℕ) → Contains numbers n ↔ IsInRow (items_of (take i keys)) n)
+    → (n : ℕ) → Contains (numbers ++ key.items) n ↔ IsInRow (items_of (take (i + 1) keys)) n
 in_rows_more keys i key numbers below is each n = (to, from)
   where
-    more : rows_of (take (i + 1) keys) ≡ rows_of (take i keys) ++ key.items ∷ []
-    more = ap rows_of (take_more keys i key below) ∙ ap (λ (k : Vec ℕ Global). rows_of (take i keys ++ k ∷ [])) (sym is) ∙ map-append (λ (r : Vec ℕ Global). r.items) (take i keys) (key ∷ [])
+    more : items_of (take (i + 1) keys) ≡ items_of (take i keys) ++ key.items ∷ []
+    more = ap items_of (take_more keys i key below) ∙ ap (λ (k : Vec ℕ Global). items_of (take i keys ++ k ∷ [])) (sym is) ∙ map-append (λ (r : Vec ℕ Global). r.items) (take i keys) (key ∷ [])
 
-    to : Contains (numbers ++ key.items) n → IsInRow (rows_of (take (i + 1) keys)) n
+    to : Contains (numbers ++ key.items) n → IsInRow (items_of (take (i + 1) keys)) n
     to there = subst (λ (rows : List (List ℕ)). IsInRow rows n) (sym more) (elim (Contains-append_cases numbers key.items n there) [
-      | inl old ↦ (let row = (each n).0 old in (row.0, Contains-append_left (rows_of (take i keys)) (key.items ∷ []) row.0 row.1, row.2))
-      | inr new ↦ (key.items, Contains-push (rows_of (take i keys)) key.items, new)
+      | inl old ↦ (let row = (each n).0 old in (row.0, Contains-append_left (items_of (take i keys)) (key.items ∷ []) row.0 row.1, row.2))
+      | inr new ↦ (key.items, Contains-push (items_of (take i keys)) key.items, new)
     ])
 
-    from : IsInRow (rows_of (take (i + 1) keys)) n → Contains (numbers ++ key.items) n
-    from row = elim (Contains-push_cases (rows_of (take i keys)) key.items row.0 (subst (λ (rows : List (List ℕ)). Contains rows row.0) more row.1)) [
+    from : IsInRow (items_of (take (i + 1) keys)) n → Contains (numbers ++ key.items) n
+    from row = elim (Contains-push_cases (items_of (take i keys)) key.items row.0 (subst (λ (rows : List (List ℕ)). Contains rows row.0) more row.1)) [
       | inl old ↦ Contains-append_left numbers key.items n ((each n).1 (row.0, old, row.2))
       | inr same ↦ Contains-append_right numbers key.items n (subst (λ (r : List ℕ). Contains r n) (sym same) row.2)
     ]
 
 -- one more list is mapped and moved
-pub row_moved : (f : List ℕ → List ℕ) (rows new left rest : List (Vec ℕ Global)) (key moved : Vec ℕ Global) (all : List (List ℕ)) → rows_of rows ++ map f (rows_of left) ≡ all → left ≡ key ∷ rest
-    → new ≡ rows ++ moved ∷ [] → moved.items ≡ f key.items → rows_of new ++ map f (rows_of rest) ≡ all
+pub row_moved : (f : List ℕ → List ℕ) (rows new left rest : List (Vec ℕ Global)) (key moved : Vec ℕ Global) (all : List (List ℕ)) → items_of rows ++ map f (items_of left) ≡ all → left ≡ key ∷ rest
+    → new ≡ rows ++ moved ∷ [] → moved.items ≡ f key.items → items_of new ++ map f (items_of rest) ≡ all
 row_moved f rows new left rest key moved all whole front grown is =
-    let reads : rows_of new ≡ rows_of rows ++ f key.items ∷ [] = ap rows_of grown ∙ map-append (λ (r : Vec ℕ Global). r.items) rows (moved ∷ []) ∙ ap (λ (x : List ℕ). rows_of rows ++ x ∷ []) is in
-    ap (λ (rs : List (List ℕ)). rs ++ map f (rows_of rest)) reads ∙ append_assoc (rows_of rows) (f key.items ∷ []) (map f (rows_of rest))
-    ∙ ap (λ (ks : List (Vec ℕ Global)). rows_of rows ++ map f (rows_of ks)) (sym front) ∙ whole
+    let reads : items_of new ≡ items_of rows ++ f key.items ∷ [] = ap items_of grown ∙ map-append (λ (r : Vec ℕ Global). r.items) rows (moved ∷ []) ∙ ap (λ (x : List ℕ). items_of rows ++ x ∷ []) is in
+    ap (λ (rs : List (List ℕ)). rs ++ map f (items_of rest)) reads ∙ append_assoc (items_of rows) (f key.items ∷ []) (map f (items_of rest))
+    ∙ ap (λ (ks : List (Vec ℕ Global)). items_of rows ++ map f (items_of ks)) (sym front) ∙ whole
 
 -- what a whole slice of a vector is overwritten with
 pub written : {X : Type 0} (n : ℕ) (new old : List X) → length new ≡ n → take n (new ++ drop (length new) old) ≡ new

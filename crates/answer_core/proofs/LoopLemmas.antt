@@ -13,10 +13,10 @@ use Rattle.tree_witness.specs.Trees.{Trees, AreTreesOf}
 use Rattle.tree_witness.proofs.LawLemmas.{lifting}
 use Rattle.tree_witness.proofs.PassLemmas.{passes_by_trees}
 use Rattle.join_ops.specs.Joins.{SearchPlace, Behind, Past, IsFixed, IsFound, IsLast}
-use Rattle.join_ops.specs.Matching.{PlannedSearch, HasLeft, ArePassing, IsNextOf, SkipsAgreeing}
+use Rattle.join_ops.specs.Matching.{PlannedSearch, HasMatchesLeft, ArePassing, WentToFirst, SkipsAgreeing}
 use Rattle.join_ops.specs.Orders.{AgreeUpTo, images_of}
 use Rattle.answer_core.specs.Binding.{BoundQuery}
-use Rattle.answer_core.specs.Found.{AllStand, IsFoundKey, IsTableOf, AddsLifted, AreWithin, HasKeyOf}
+use Rattle.answer_core.specs.Found.{HaveIndividuals, IsFoundKey, IsTableOf, AddsLifted, AreWithin, HasKeyOf}
 use Rattle.answer_core.proofs.RankLemmas.{rank, tuples, elements, rank_falls, rank_past, elements_in}
 use Rattle.answer_core.proofs.ReadLemmas.{reads_along}
 
@@ -38,12 +38,12 @@ have_lifted table b fixed trees all layout trees_are are = record {
 
 -- one of these matches lifts and has these individuals at the answer places
 abbrev pub IsLiftedRead : Terminology → List NamedRow → List (List ℕ) → (Role → ℕ) → BoundQuery → ℕ → List (List Elem) → List ℕ → Type 0
-IsLiftedRead o rows names generation b count all numbers = (images : List Elem) × Contains all images × LiftsShape o rows names generation b.shape images × AllStand images b.answers count numbers
+IsLiftedRead o rows names generation b count all numbers = (images : List Elem) × Contains all images × LiftsShape o rows names generation b.shape images × HaveIndividuals images b.answers count numbers
 
 -- If the images lift, the key that they have is among these. It is said of each base whose completed table this is.
 abbrev pub IsKeyFound : List TableRow → BoundQuery → ℕ → List (List ℕ) → List Elem → Type 0
 IsKeyFound table b count found images = (o : Terminology) (rows : List NamedRow) (names : List (List ℕ)) (generation : Role → ℕ)
-    → IsTableOf o rows names generation table → LiftsShape o rows names generation b.shape images → (numbers : List ℕ) → AllStand images b.answers count numbers → Contains found numbers
+    → IsTableOf o rows names generation table → LiftsShape o rows names generation b.shape images → (numbers : List ℕ) → HaveIndividuals images b.answers count numbers → Contains found numbers
 
 -- the keys found are those of matches that lift, and each match that lifts and isn't left has its key among them
 pub record FoundSoFar (table : List TableRow) (b : BoundQuery) (fixed : List (Option ℕ)) (count : ℕ) (search : PlannedSearch) (found : List (List ℕ)) : Type 0 where
@@ -51,7 +51,7 @@ pub record FoundSoFar (table : List TableRow) (b : BoundQuery) (fixed : List (Op
   pub left : List (List Elem)
   pub are : HaveLifted table b fixed all
   pub among : (images : List Elem) → Contains left images → Contains all images
-  pub goes_on : HasLeft table search left
+  pub goes_on : HasMatchesLeft table search left
   pub within : AreWithin count found
   pub only : (o : Terminology) (rows : List NamedRow) (names : List (List ℕ)) (generation : Role → ℕ) → IsTableOf o rows names generation table
       → (numbers : List ℕ) → Contains found numbers → IsLiftedRead o rows names generation b count all numbers
@@ -59,7 +59,7 @@ pub record FoundSoFar (table : List TableRow) (b : BoundQuery) (fixed : List (Op
 
 module _ (table : List TableRow) (b : BoundQuery) (fixed : List (Option ℕ)) (count : ℕ) where
   pub found_none : (trees : Trees) (search : PlannedSearch) (found : List (List ℕ)) → IsLayout b.shape → AreTreesOf b.shape trees → found ≡ []
-      → (left : List (List Elem)) × HasLeft table search left × ArePassing table b.shape trees fixed left → FoundSoFar table b fixed count search found
+      → (left : List (List Elem)) × HasMatchesLeft table search left × ArePassing table b.shape trees fixed left → FoundSoFar table b fixed count search found
   found_none trees search found layout trees_are none (left, goes_on, are) = record {
     all = left;
     left = left;
@@ -74,7 +74,7 @@ module _ (table : List TableRow) (b : BoundQuery) (fixed : List (Option ℕ)) (c
       nothing : (numbers : List ℕ) → Contains found numbers → ⊥
       nothing numbers c = let d : Contains [] numbers = subst (λ (ks : List (List ℕ)). Contains ks numbers) none c in omega (arith, d.1)
 
-  module _ (search : PlannedSearch) (found : List (List ℕ)) (so_far : FoundSoFar table b fixed count search found) (new : PlannedSearch) (next : IsNextOf table search.search.place so_far.left new) where
+  module _ (search : PlannedSearch) (found : List (List ℕ)) (so_far : FoundSoFar table b fixed count search found) (new : PlannedSearch) (next : WentToFirst table search.search.place so_far.left new) where
     -- the images of the next match
     abbrev pub next_images : List Elem
     next_images = images_of new.levels next.elements
@@ -110,7 +110,7 @@ module _ (table : List TableRow) (b : BoundQuery) (fixed : List (Option ℕ)) (c
     next_places within = subst (λ (n : ℕ). All (λ p. p < n) b.answers) (sym next_match.count) within
 
     module _ (more : List (List ℕ)) (within : AreWithin count found → AreWithin count more) (adds : AddsLifted b.shape next_images b.answers count found more) where
-      goes_over : (newer : PlannedSearch) (rest : List (List Elem)) → HasLeft table newer rest → ((images : List Elem) → Contains rest images → Contains next.others images)
+      goes_over : (newer : PlannedSearch) (rest : List (List Elem)) → HasMatchesLeft table newer rest → ((images : List Elem) → Contains rest images → Contains next.others images)
           → ((images : List Elem) → Contains next.others images → Contains rest images ⊎ IsKeyFound table b count more images) → FoundSoFar table b fixed count newer more
       goes_over newer rest goes_on into out = record {
         all = so_far.all;
@@ -132,7 +132,7 @@ module _ (table : List TableRow) (b : BoundQuery) (fixed : List (Option ℕ)) (c
 
           here : (images : List Elem) → images ≡ next_images → IsKeyFound table b count more images
           here images same o rows names generation base lifts numbers r = (adds o rows names generation table base next_match numbers).1
-              (inr (subst (λ (ms : List Elem). LiftsShape o rows names generation b.shape ms × AllStand ms b.answers count numbers) same (lifts, r)))
+              (inr (subst (λ (ms : List Elem). LiftsShape o rows names generation b.shape ms × HaveIndividuals ms b.answers count numbers) same (lifts, r)))
 
           stays : (images : List Elem) → IsKeyFound table b count found images → IsKeyFound table b count more images
           stays images there o rows names generation base lifts numbers r = (adds o rows names generation table base next_match numbers).1 (inl (there o rows names generation base lifts numbers r))

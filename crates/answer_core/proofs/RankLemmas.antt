@@ -16,7 +16,7 @@ use Rattle.dl_base.proofs.RisingLemmas.{contains_cases, contains_first, contains
 use Rattle.query_shape.specs.Shape.{Layout, IsLayout, IsShapeMatch, HoldsAt, IsTermOf}
 use Rattle.query_shape.specs.declared.layout.ShapeAtom.{ShapeAtom}
 use Rattle.query_shape.specs.declared.layout.ShapeAtom.TheVariants as shape
-use Rattle.join_ops.specs.Joins.{SearchPlace, Start, Behind, Past, End, IsBehind}
+use Rattle.join_ops.specs.Joins.{SearchPlace, Start, Behind, Past, End, IsBehindPlace}
 use Rattle.dl_base.proofs.PlaceLemmas.{flat_there, map_contains, place_of}
 use Rattle.join_ops.specs.Orders.{images_of}
 use Rattle.join_ops.proofs.ImageLemmas.{image_at}
@@ -126,13 +126,13 @@ comes_behind End images = false
 abbrev pub rank : List (List Elem) → SearchPlace → ℕ
 rank all place = passing (comes_behind place) all
 
-behind_is : (place : SearchPlace) (images : List Elem) → IsBehind place images → comes_behind place images ≡ true
+behind_is : (place : SearchPlace) (images : List Elem) → IsBehindPlace place images → comes_behind place images ≡ true
 behind_is Start images h = refl
 behind_is (Behind last) images h = ap is_lt h
 behind_is (Past n last) images h = ap is_lt h
 behind_is End images h = absurd h
 
-behind_more : (place : SearchPlace) (images others : List Elem) → IsBehind place images → comes_behind (Behind images) others ≡ true → comes_behind place others ≡ true
+behind_more : (place : SearchPlace) (images others : List Elem) → IsBehindPlace place images → comes_behind (Behind images) others ≡ true → comes_behind place others ≡ true
 behind_more Start images others h more = refl
 behind_more (Behind last) images others h more = ap is_lt ((lists_total elem_total).trans last images others h (less_of (slice_cmp elem_cmp images others) more))
 behind_more (Past n last) images others h more = elim (take_rises n images others (less_of (slice_cmp elem_cmp images others) more)) [
@@ -142,7 +142,7 @@ behind_more (Past n last) images others h more = elim (take_rises n images other
 behind_more End images others h more = absurd h
 
 -- behind the next match there are fewer
-pub rank_falls : (all : List (List Elem)) (place new : SearchPlace) (images : List Elem) → IsBehind place images → new ≡ Behind images → Contains all images → rank all new < rank all place
+pub rank_falls : (all : List (List Elem)) (place new : SearchPlace) (images : List Elem) → IsBehindPlace place images → new ≡ Behind images → Contains all images → rank all new < rank all place
 rank_falls all place new images behind stands there =
     subst (λ (at : SearchPlace). rank all at < rank all place) (sym stands)
     (passing_fewer (comes_behind place) (comes_behind (Behind images)) (λ others. behind_more place images others behind) all images there (behind_is place images behind)

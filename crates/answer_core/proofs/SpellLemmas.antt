@@ -1,10 +1,10 @@
 -- Keys by name from keys by number.
 use Rattle.std.proofs.Common.{◌≡◌, ℕ, List, [], ◌∷◌, sym, refl, ◌∙◌}
 use Rattle.dl_base.proofs.PlaceLemmas.{some_same}
-use Rattle.answer_core.specs.Found.{Spells}
+use Rattle.answer_core.specs.Found.{SpellsKey}
 
 -- numbers spell one key
-pub spells_same : (names : List (List ℕ)) (ns : List ℕ) (key other : List (List ℕ)) → Spells names ns key → Spells names ns other → other ≡ key
+pub spells_same : (names : List (List ℕ)) (ns : List ℕ) (key other : List (List ℕ)) → SpellsKey names ns key → SpellsKey names ns other → other ≡ key
 spells_same names [] [] [] s t = refl
 spells_same names [] [] (b ∷ bs) s t = absurd t
 spells_same names [] (a ∷ rest) other s t = absurd s

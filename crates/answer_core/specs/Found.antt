@@ -21,12 +21,12 @@ abbrev pub IsOf : ℕ → Elem → ℕ → Type 0
 IsOf count e n = (e ≡ elem.Named n) × (n < count)
 
 -- the term of the first number has the individual of the second, one of so many
-abbrev pub Stands : List Elem → ℕ → ℕ → ℕ → Type 0
-Stands images count p n = (slice_get images p ≡ Some (elem.Named n)) × (n < count)
+abbrev pub HasIndividual : List Elem → ℕ → ℕ → ℕ → Type 0
+HasIndividual images count p n = (slice_get images p ≡ Some (elem.Named n)) × (n < count)
 
 -- the terms of these numbers have these individuals
-abbrev pub AllStand : List Elem → List ℕ → ℕ → List ℕ → Type 0
-AllStand images places count numbers = AllZip (Stands images count) places numbers
+abbrev pub HaveIndividuals : List Elem → List ℕ → ℕ → List ℕ → Type 0
+HaveIndividuals images places count numbers = AllZip (HasIndividual images count) places numbers
 
 -- the table is the completed one of this base, whose individuals have distinct names
 pub record IsTableOf (o : Terminology) (rows : List NamedRow) (names : List (List ℕ)) (generation : Role → ℕ) (table : List TableRow) : Type 0 where
@@ -40,7 +40,7 @@ pub record IsFoundKey (o : Terminology) (rows : List NamedRow) (names : List (Li
   pub match_is : IsShapeMatch table b.shape images
   pub lifts : LiftsShape o rows names generation b.shape images
   pub fixed_are : IsFixed fixed images
-  pub reads : AllStand images b.answers count numbers
+  pub reads : HaveIndividuals images b.answers count numbers
 
 -- one of the terms of these numbers has the level
 abbrev pub IsLevelOfOne : List ℕ → List ℕ → ℕ → Type 0
@@ -51,11 +51,11 @@ IsLevelOfOne levels places level = (p : ℕ) × Contains places p × (slice_inde
 abbrev pub AddsLifted : Layout → List Elem → List ℕ → ℕ → List (List ℕ) → List (List ℕ) → Type 0
 AddsLifted s images places count old new = (o : Terminology) (rows : List NamedRow) (names : List (List ℕ)) (generation : Role → ℕ) (table : List TableRow)
     → IsTableOf o rows names generation table → IsShapeMatch table s images
-    → (numbers : List ℕ) → Contains new numbers ↔ (Contains old numbers ⊎ (LiftsShape o rows names generation s images × AllStand images places count numbers))
+    → (numbers : List ℕ) → Contains new numbers ↔ (Contains old numbers ⊎ (LiftsShape o rows names generation s images × HaveIndividuals images places count numbers))
 
 -- whatever individuals the images have at the places, they are one of these keys
 abbrev pub HasKeyOf : List Elem → List ℕ → ℕ → List (List ℕ) → Type 0
-HasKeyOf images places count found = (numbers : List ℕ) → AllStand images places count numbers → Contains found numbers
+HasKeyOf images places count found = (numbers : List ℕ) → HaveIndividuals images places count numbers → Contains found numbers
 
 -- all numbers of these keys are below the count
 abbrev pub AreWithin : ℕ → List (List ℕ) → Type 0
@@ -75,10 +75,10 @@ HasLast true last keys = has_key keys last ≡ true
 HasLast false last keys = Unit {0}
 
 -- the names of these numbers
-abbrev pub Spells : List (List ℕ) → List ℕ → List (List ℕ) → Type 0
-Spells names numbers key = AllZip (λ n a. slice_get names n ≡ Some a) numbers key
+abbrev pub SpellsKey : List (List ℕ) → List ℕ → List (List ℕ) → Type 0
+SpellsKey names numbers key = AllZip (λ n a. slice_get names n ≡ Some a) numbers key
 
 -- the strictly rising list of the keys by name of these keys by number
 pub record AreSpelled (names : List (List ℕ)) (found : List (List ℕ)) (keys : List (List (List ℕ))) : Type 0 where
   pub rising : IsStrictlySortedBy key_cmp keys
-  pub members : (key : List (List ℕ)) → Contains keys key ↔ ((numbers : List ℕ) × Contains found numbers × Spells names numbers key)
+  pub members : (key : List (List ℕ)) → Contains keys key ↔ ((numbers : List ℕ) × Contains found numbers × SpellsKey names numbers key)

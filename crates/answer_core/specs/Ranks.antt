@@ -10,8 +10,8 @@ abbrev pub IsInRow : List (List ℕ) → ℕ → Type 0
 IsInRow rows n = (row : List ℕ) × Contains rows row × Contains row n
 
 -- the individual has the name that the list has at its number
-abbrev pub IsNamedIn : List (List ℕ) → Ranked → Type 0
-IsNamedIn names e = slice_get names e.number ≡ Some e.name.now
+abbrev pub HasItsName : List (List ℕ) → Ranked → Type 0
+HasItsName names e = slice_get names e.number ≡ Some e.name.now
 
 -- one of these individuals has the number
 abbrev pub HasNumber : List Ranked → ℕ → Type 0
@@ -23,7 +23,7 @@ names_by_rank order = map (λ e. e.name.now) order
 
 -- individuals of these names in the order of their names: none behind another has a name below that one's
 pub record AreInOrder (names : List (List ℕ)) (order : List Ranked) : Type 0 where
-  pub named : All (IsNamedIn names) order
+  pub named : All (HasItsName names) order
   pub in_order : (i j : ℕ) (x y : Ranked) → i < j → slice_get order i ≡ Some x → slice_get order j ≡ Some y → name_cmp y.name.now x.name.now ≡ Less → ⊥
 
 -- the rank of the number is the place of an individual that has it
@@ -35,5 +35,5 @@ abbrev pub ranks_of : List ℕ → List ℕ → List ℕ
 ranks_of ranks numbers = map (λ n. slice_index ranks n) numbers
 
 -- the lists in these vectors
-abbrev pub rows_of : List (Vec ℕ Global) → List (List ℕ)
-rows_of rows = map (λ row. row.items) rows
+abbrev pub items_of : List (Vec ℕ Global) → List (List ℕ)
+items_of rows = map (λ row. row.items) rows

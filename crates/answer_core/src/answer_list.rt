@@ -10,7 +10,7 @@ ghost use Rattle.dl_base.specs.declared.row.NamedRow.{NamedRow as AnyRow};
 ghost use Rattle.query_shape.specs.Shape.{IsLayout, Layout};
 ghost use Rattle.tree_witness.specs.Trees.{AreTreesOf};
 ghost use Rattle.answer_core.specs.Binding.{IsBoundTo};
-ghost use Rattle.answer_core.specs.Found.{AddsLifted, AllStand, AreWithin, HasKeyOf, IsFoundKey, IsLevelOfOne, IsOf, IsTableOf};
+ghost use Rattle.answer_core.specs.Found.{AddsLifted, HaveIndividuals, AreWithin, HasKeyOf, IsFoundKey, IsLevelOfOne, IsOf, IsTableOf};
 
 use crate::bound::Bound;
 use crate::fixed::{fixed_numbers, has_names};
@@ -159,8 +159,8 @@ fn add_key(
 fn read_key(images: &[Elem], places: &[u32], count: usize, key: &mut [u32]) -> bool
     requires places { All (λ p. p < length images.now) places.now }
     requires room { length key.old ≡ length places.now }
-    ensures read { OnTrue result (AllStand images.now places.now count key.new) }
-    ensures none { OnFalse result ((numbers : List ℕ) → AllStand images.now places.now count numbers → ⊥) }
+    ensures read { OnTrue result (HaveIndividuals images.now places.now count key.new) }
+    ensures none { OnFalse result ((numbers : List ℕ) → HaveIndividuals images.now places.now count numbers → ⊥) }
 {
     for i in 0..places.len() {
         let Some(number) = individual(images[places[i] as usize], count) else {

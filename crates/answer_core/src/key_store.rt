@@ -1,7 +1,7 @@
 //! Keys by number in a list or a set.
 ghost use Rattle.std.specs.Prelude.{◌≡◌, [], IfOk, OnOk, OnErr};
 ghost use Rattle.answer_core.specs.Found.{AddsKey};
-ghost use Rattle.answer_core.specs.Ranks.{rows_of};
+ghost use Rattle.answer_core.specs.Ranks.{items_of};
 
 use std::alloc::{AllocError, Global};
 use std::collections::BTreeSet;
@@ -21,9 +21,9 @@ impl Model for KeyStore {
 
     ghost Value = { List (List ℕ) };
 
-    ghost use Rattle.answer_core.specs.Ranks.{rows_of};
+    ghost use Rattle.answer_core.specs.Ranks.{items_of};
 
-    ghost view = { λ s. rows_of s.listed.items ++ rows_of s.others.keys };
+    ghost view = { λ s. items_of s.listed.items ++ items_of s.others.keys };
 }
 
 impl KeyStore {
@@ -53,7 +53,7 @@ impl KeyStore {
 
     /// The keys in a list.
     pub(crate) fn into_rows(self) -> Result<Vec<Vec<u32>>, AllocError>
-        ensures { IfOk result (λ rows. rows_of rows.items ≡ self) }
+        ensures { IfOk result (λ rows. items_of rows.items ≡ self) }
     {
         let mut rows = self.listed;
         for key in self.others {
@@ -65,8 +65,8 @@ impl KeyStore {
 
 /// Adds a copy of the key where it is new. At `AllocError` the keys are as they were.
 fn insert(alloc: Global, keys: &mut BTreeSet<Vec<u32>>, key: &[u32]) -> Result<(), AllocError>
-    ensures ok { OnOk result (AddsKey (rows_of keys.old.keys) key.now (rows_of keys.new.keys)) }
-    ensures err { OnErr result (rows_of keys.new.keys ≡ rows_of keys.old.keys) }
+    ensures ok { OnOk result (AddsKey (items_of keys.old.keys) key.now (items_of keys.new.keys)) }
+    ensures err { OnErr result (items_of keys.new.keys ≡ items_of keys.old.keys) }
 {
     if keys.contains(key) {
         return Ok(());

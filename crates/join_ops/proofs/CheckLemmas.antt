@@ -7,7 +7,7 @@ use Rattle.dl_base.specs.Tables.{TableRow}
 use Rattle.dl_base.specs.declared.element.Elem.{Elem}
 use Rattle.dl_base.proofs.PlaceLemmas.{some_same}
 use Rattle.join_ops.specs.Conditions.{IsLevelOf, IsUnder, Meets}
-use Rattle.join_ops.specs.Levels.{AreChecks, AreUnder, Gives, IsChecked, MeetsAll}
+use Rattle.join_ops.specs.Levels.{AreChecks, AreUnder, HoldsByOffer, IsChecked, MeetsAll}
 use Rattle.join_ops.specs.declared.condition.Condition.{Condition}
 use Rattle.join_ops.specs.declared.source.Source.{Source}
 use Rattle.join_ops.proofs.SearchSteps.{take_all}
@@ -32,7 +32,7 @@ meets_more table conditions checks elements n below c at before here i d there i
 -- the places for so many first conditions
 pub record ChecksSoFar (conditions : List Condition) (s : Source) (k place : ℕ) (checks : List ℕ) : Type 0 where
   pub under : AreUnder conditions (suc k) checks
-  pub all : (c : Condition) → Contains (take place conditions) c → IsLevelOf k c → IsUnder (suc k) c → IsChecked conditions checks c ⊎ Gives s k c
+  pub all : (c : Condition) → Contains (take place conditions) c → IsLevelOf k c → IsUnder (suc k) c → IsChecked conditions checks c ⊎ HoldsByOffer s k c
 
 pub no_checks : (conditions : List Condition) (s : Source) (k : ℕ) → ChecksSoFar conditions s k 0 []
 no_checks conditions s k = record {
@@ -62,11 +62,11 @@ module _ (conditions : List Condition) (s : Source) (k place : ℕ) (checks : Li
     ];
   }
 
-  pub one_given : (IsLevelOf k (get_or conditions place d) → IsUnder (suc k) (get_or conditions place d) → Gives s k (get_or conditions place d)) → ChecksSoFar conditions s k (place + 1) checks
+  pub one_given : (IsLevelOf k (get_or conditions place d) → IsUnder (suc k) (get_or conditions place d) → HoldsByOffer s k (get_or conditions place d)) → ChecksSoFar conditions s k (place + 1) checks
   one_given gives = record {
     under = so_far.under;
     all = λ c there speaks is. elim (one_of c there) [
       | inl old ↦ so_far.all c old speaks is
-      | inr same ↦ inr (subst (Gives s k) same (gives (subst (IsLevelOf k) (sym same) speaks) (subst (IsUnder (suc k)) (sym same) is)))
+      | inr same ↦ inr (subst (HoldsByOffer s k) same (gives (subst (IsLevelOf k) (sym same) speaks) (subst (IsUnder (suc k)) (sym same) is)))
     ];
   }

@@ -14,8 +14,8 @@ use Rattle.dl_base.specs.declared.element.Elem.{Elem}
 use Rattle.dl_base.proofs.ElemLemmas.{elem_total}
 use Rattle.dl_base.proofs.RisingLemmas.{contains_cases, contains_first, contains_later, all_contains}
 use Rattle.dl_base.proofs.RowLemmas.{none_rising}
-use Rattle.join_ops.specs.Joins.{SearchPlace, Start, Behind, Past, End, IsFound, IsBehind, IsLast, AreLeft, IsNext, Advances, SkipsAlike}
-use Rattle.join_ops.specs.Levels.{Finds, IsLeast, place_at}
+use Rattle.join_ops.specs.Joins.{SearchPlace, Start, Behind, Past, End, IsFound, IsBehindPlace, IsLast, AreLeft, StandsBehindFirst, Advances, SkipsAlike}
+use Rattle.join_ops.specs.Levels.{Finds, IsLeast, search_place}
 use Rattle.join_ops.specs.declared.condition.Condition.{Condition}
 use Rattle.join_ops.specs.declared.search.At.{At}
 use Rattle.join_ops.specs.declared.search.At.TheVariants as at
@@ -30,7 +30,7 @@ never_below x less = let self : slice_cmp elem_cmp x x ≡ Equal = tied_itself i
 less_through : (x y z : List Elem) → slice_cmp elem_cmp x y ≡ Less → slice_cmp elem_cmp y z ≡ Less → slice_cmp elem_cmp x z ≡ Less
 less_through x y z e f = images_total.trans x y z e f
 
-behind_through : (place : SearchPlace) (x y : List Elem) → IsBehind place x → slice_cmp elem_cmp x y ≡ Less → IsBehind place y
+behind_through : (place : SearchPlace) (x y : List Elem) → IsBehindPlace place x → slice_cmp elem_cmp x y ≡ Less → IsBehindPlace place y
 behind_through Start x y h less = tt
 behind_through (Behind last) x y h less = less_through last x y h less
 behind_through (Past n last) x y h less = elim (take_rises n x y less) [
@@ -41,7 +41,7 @@ behind_through End x y h less = absurd h
 
 module _ (table : List TableRow) (conditions : List Condition) (fixed : List (Option ℕ)) (place : SearchPlace) where
   none_left : (left : List (List Elem)) → AreLeft table (record { conditions = conditions; fixed = fixed; place = place }) left
-      → ((others : List Elem) → IsFound table conditions fixed others → IsBehind place others → ⊥)
+      → ((others : List Elem) → IsFound table conditions fixed others → IsBehindPlace place others → ⊥)
       → (left ≡ []) × AreLeft table (record { conditions = conditions; fixed = fixed; place = End }) []
   none_left [] are none = (
     refl,
@@ -86,7 +86,7 @@ module _ (table : List TableRow) (conditions : List Condition) (fixed : List (Op
       in_others images less (inr c) = c
 
   next_left : (left : List (List Elem)) (images : List Elem) → AreLeft table (record { conditions = conditions; fixed = fixed; place = place }) left
-      → IsLeast table conditions fixed place images → IsNext table left (record { conditions = conditions; fixed = fixed; place = Behind images })
+      → IsLeast table conditions fixed place images → StandsBehindFirst table left (record { conditions = conditions; fixed = fixed; place = Behind images })
   next_left [] images are least = absurd (let c = (are.each images).1 (least.found, least.behind) in omega (arith, c.1))
   next_left (x ∷ xs) images are least =
       let same = first_is x images xs are least in
@@ -100,22 +100,22 @@ module _ (table : List TableRow) (conditions : List Condition) (fixed : List (Op
 
   found_left : (left : List (List Elem)) (found : Bool) (images : List Elem) (after : At) → AreLeft table (record { conditions = conditions; fixed = fixed; place = place }) left
       → Finds table conditions fixed place found images → ((found ≡ true) × (after ≡ at.Behind)) ⊎ ((found ≡ false) × (after ≡ at.End))
-      → Advances table left found (record { conditions = conditions; fixed = fixed; place = place_at after images })
+      → Advances table left found (record { conditions = conditions; fixed = fixed; place = search_place after images })
   found_left left true images after are finds (inl is) =
-      subst (λ (a : At). IsNext table left (record { conditions = conditions; fixed = fixed; place = place_at a images })) (sym is.1) (next_left left images are finds)
+      subst (λ (a : At). StandsBehindFirst table left (record { conditions = conditions; fixed = fixed; place = search_place a images })) (sym is.1) (next_left left images are finds)
   found_left left true images after are finds (inr is) = absurd (let e = is.0 in cc)
   found_left left false images after are finds (inl is) = absurd (let e = is.0 in cc)
   found_left left false images after are finds (inr is) =
       let none = none_left left are finds in
-      (none.0, subst (λ (a : At). AreLeft table (record { conditions = conditions; fixed = fixed; place = place_at a images }) []) (sym is.1) none.1)
+      (none.0, subst (λ (a : At). AreLeft table (record { conditions = conditions; fixed = fixed; place = search_place a images }) []) (sym is.1) none.1)
 
 -- what an answer of the search says of what is left
 pub advances : (table : List TableRow) (conditions : List Condition) (fixed : List (Option ℕ)) (before after : At) (old new : List Elem) (left : List (List Elem)) (found : Bool)
-    → AreLeft table (record { conditions = conditions; fixed = fixed; place = place_at before old }) left
-    → (IsLast table conditions fixed (place_at before old) → Finds table conditions fixed (place_at before old) found new)
+    → AreLeft table (record { conditions = conditions; fixed = fixed; place = search_place before old }) left
+    → (IsLast table conditions fixed (search_place before old) → Finds table conditions fixed (search_place before old) found new)
     → ((found ≡ true) × (after ≡ at.Behind)) ⊎ ((found ≡ false) × (after ≡ at.End))
-    → Advances table left found (record { conditions = conditions; fixed = fixed; place = place_at after new })
-advances table conditions fixed before after old new left found are finds is = found_left table conditions fixed (place_at before old) left found new after are (finds are.last) is
+    → Advances table left found (record { conditions = conditions; fixed = fixed; place = search_place after new })
+advances table conditions fixed before after old new left found are finds is = found_left table conditions fixed (search_place before old) left found new after are (finds are.last) is
 
 pub less_of : (r : Ordering) → is_lt r ≡ true → r ≡ Less
 less_of Less e = refl
@@ -172,14 +172,14 @@ past_left table conditions fixed n x left are = record {
     apart : (images : List Elem) → slice_cmp elem_cmp (take n x) (take n images) ≡ Less → take n images ≡ take n x → ⊥
     apart images less same = never_below (take n x) (subst (λ (l : List Elem). slice_cmp elem_cmp (take n x) l ≡ Less) same less)
 
-stood_at : (at : At) (images last : List Elem) → place_at at images ≡ Behind last → images ≡ last
+stood_at : (at : At) (images last : List Elem) → search_place at images ≡ Behind last → images ≡ last
 stood_at at.Start images last stands = absurd cc
 stood_at at.Behind images last stands = cc
 stood_at (at.Past n) images last stands = absurd cc
 stood_at at.End images last stands = absurd cc
 
 pub skips_alike : (table : List TableRow) (conditions : List Condition) (fixed : List (Option ℕ)) (at : At) (n : ℕ) (images last : List Elem) (left : List (List Elem))
-    → AreLeft table (record { conditions = conditions; fixed = fixed; place = place_at at images }) left → place_at at images ≡ Behind last
+    → AreLeft table (record { conditions = conditions; fixed = fixed; place = search_place at images }) left → search_place at images ≡ Behind last
     → SkipsAlike table left n last (record { conditions = conditions; fixed = fixed; place = Past n images })
 skips_alike table conditions fixed at n images last left are stands =
     subst (λ (l : List Elem). SkipsAlike table left n last (record { conditions = conditions; fixed = fixed; place = Past n l })) (sym (stood_at at images last stands))

@@ -13,9 +13,9 @@ use Rattle.dl_base.proofs.PlaceLemmas.{member_at, place_stays, some_same, someth
 use Rattle.query_shape.specs.Shape.{HoldsAt, IsBelow, IsTermOf}
 use Rattle.query_shape.specs.declared.layout.ShapeAtom.{ShapeAtom}
 use Rattle.query_shape.specs.declared.layout.ShapeAtom.TheVariants as shape
-use Rattle.join_ops.specs.Joins.{SearchPlace, Start, Behind, Past, IsFound, IsBehind}
+use Rattle.join_ops.specs.Joins.{SearchPlace, Start, Behind, Past, IsFound, IsBehindPlace}
 use Rattle.join_ops.specs.Conditions.{AreTwins, IsLevelOf, IsUnder, Meets}
-use Rattle.join_ops.specs.Levels.{fixed_of, fixed_on, Offers, LeadsTo, Gives, IsAlong, IsTwinBy, IsFromFront, Serves, IsSource, IsLevel, AreLevels, Fits, IsBeyond, IsFront, IsAt, IsLeast}
+use Rattle.join_ops.specs.Levels.{fixed_of, fixed_on, Offers, EdgeLeadsTo, HoldsByOffer, IsAlong, IsTwinBy, IsFromFront, Serves, IsSource, IsTermLevel, AreLevels, Fits, IsBeyond, IsFoundFront, IsAtFront, IsLeast}
 use Rattle.join_ops.specs.declared.condition.Condition.{Condition}
 use Rattle.join_ops.specs.declared.condition.Condition.TheVariants as condition
 use Rattle.join_ops.specs.declared.condition.Twins.{Twins}
@@ -87,16 +87,16 @@ turned_back table false p e f c = c
 turned_back table true p e f c = c
 
 -- a source that offers nothing but where the edge leads
-pub along_leads : (table : List TableRow) (g : Edge) (s : Source) (front : List Elem) (e : Elem) → IsAlong g s → Offers table s front e → LeadsTo table g front e
+pub along_leads : (table : List TableRow) (g : Edge) (s : Source) (front : List Elem) (e : Elem) → IsAlong g s → Offers table s front e → EdgeLeadsTo table g front e
 along_leads table g s front e (inl is) offered = subst (λ (t : Source). Offers table t front e) is offered
 along_leads table g s front e (inr twin) offered = (subst (λ (t : Source). Offers table t front e) twin.1 offered).0
 
-pub gives_back : (s : Source) (r : Role) (n m k : ℕ) → IsAlong (record { role = record { name = r.name; inverse = not r.inverse }; from = m }) s → n ≡ k → Gives s k (condition.Atom (shape.Role r n m))
+pub gives_back : (s : Source) (r : Role) (n m k : ℕ) → IsAlong (record { role = record { name = r.name; inverse = not r.inverse }; from = m }) s → n ≡ k → HoldsByOffer s k (condition.Atom (shape.Role r n m))
 gives_back s r n m k along at table front e long within offered =
     let is = along_leads table (record { role = record { name = r.name; inverse = not r.inverse }; from = m }) s front e along offered in
     (e, is.0, subst (λ (i : ℕ). slice_get (front ++ e ∷ []) i ≡ Some e) (long ∙ sym at) (get_at front e []), place_stays front (e ∷ []) m is.0 is.1, turned_back table r.inverse r.name e is.0 is.2)
 
-pub gives_twins : (s : Source) (t : Twins) (k : ℕ) → IsTwinBy t s → t.twin ≡ k → Gives s k (condition.Twins t)
+pub gives_twins : (s : Source) (t : Twins) (k : ℕ) → IsTwinBy t s → t.twin ≡ k → HoldsByOffer s k (condition.Twins t)
 gives_twins s t k by at table front e long within offered =
     let here : Offers table (source.Twin by.0 t) front e = subst (λ (x : Source). Offers table x front e) by.1 offered in
     let inside : IsFromFront k (source.Twin by.0 t) = subst (IsFromFront k) by.1 within in
@@ -128,10 +128,10 @@ twins_apart t elements child parent_within twin_within at apart =
 
 -- there the edge alone tells what is offered
 pub least_apart : (table : List TableRow) (s : Source) (g : Edge) (t : Twins) (front : List Elem) (child : Elem) (after r : Option Elem) → s ≡ source.Twin g t → slice_get front t.child ≡ Some child → (IsWitnessOf t.role child → ⊥)
-    → IsLeastAbove (LeadsTo table g front) after r → IsLeastAbove (Offers table s front) after r
+    → IsLeastAbove (EdgeLeadsTo table g front) after r → IsLeastAbove (Offers table s front) after r
 least_apart table s g t front child after r is at apart least = subst (λ (o : Source). IsLeastAbove (Offers table o front) after r) (sym is) (by r least)
   where
-    by : (r : Option Elem) → IsLeastAbove (LeadsTo table g front) after r → IsLeastAbove (Offers table (source.Twin g t) front) after r
+    by : (r : Option Elem) → IsLeastAbove (EdgeLeadsTo table g front) after r → IsLeastAbove (Offers table (source.Twin g t) front) after r
     by None none = λ e offered over. none e offered.0 over
     by (Some e) least = ((least.0, (child, at, λ witness. absurd (apart witness))), least.1, λ f offered over. least.2 f offered.0 over)
 
@@ -143,7 +143,7 @@ under_more : (k j : ℕ) (c : Condition) → k ≤ j → IsUnder k c → IsUnder
 under_more k j (condition.Atom a) more under = below_more k j a more under
 under_more k j (condition.Twins t) more under = (omega (arith, under.0), omega (arith, under.1), omega (arith, under.2))
 
-leads_front : (table : List TableRow) (g : Edge) (front ys : List Elem) (e : Elem) → g.from < length front → LeadsTo table g (front ++ ys) e → LeadsTo table g front e
+leads_front : (table : List TableRow) (g : Edge) (front ys : List Elem) (e : Elem) → g.from < length front → EdgeLeadsTo table g (front ++ ys) e → EdgeLeadsTo table g front e
 leads_front table g front ys e within h = (h.0, sym (get_front front ys g.from within) ∙ h.1, h.2)
 
 offers_front : (table : List TableRow) (s : Source) (front ys : List Elem) (e : Elem) → IsFromFront (length front) s → Offers table s (front ++ ys) e → Offers table s front e
@@ -206,7 +206,7 @@ last_level k (condition.Twins t) under = elim (last_or t.parent k under.0) [
 ]
 
 -- what a level offers comes from what is in front
-pub level_within : (conditions : List Condition) (k : ℕ) (l : Level) → IsLevel conditions k l → IsFromFront k l.source
+pub level_within : (conditions : List Condition) (k : ℕ) (l : Level) → IsTermLevel conditions k l → IsFromFront k l.source
 level_within conditions k l is = elim is.source_is [
   | inl named ↦ subst (IsFromFront k) (sym named.1) tt
   | inr (inl serving) ↦ serving.2.within
@@ -253,13 +253,13 @@ module _ (table : List TableRow) (conditions : List Condition) (levels : List Le
 
   -- a front with an element that fits
   front_grows : (front : List Elem) (e : Elem) (l : Level) → slice_get levels (length front) ≡ Some l
-      → IsFront table conditions (map fixed_on levels) front → Fits table conditions l front e → IsFront table conditions (map fixed_on levels) (front ++ e ∷ [])
+      → IsFoundFront table conditions (map fixed_on levels) front → Fits table conditions l front e → IsFoundFront table conditions (map fixed_on levels) (front ++ e ∷ [])
   front_grows front e l at is fits = record {
     met = λ c there under. now_met c there (rw (length_more front e) at under);
     fixed_are = λ k n below fixed. term k n (rw (length_more front e) at below) fixed;
   }
     where
-      here : IsLevel conditions (length front) l
+      here : IsTermLevel conditions (length front) l
       here = are (length front) l at
 
       -- a condition that speaks of the new level
@@ -289,7 +289,7 @@ module _ (table : List TableRow) (conditions : List Condition) (levels : List Le
               let last : slice_get (front ++ e ∷ []) (length front) ≡ Some e = get_at front e [] in
               ap (λ (j : ℕ). slice_get (front ++ e ∷ []) j) (sym same) ∙ last ∙ ap Some is_it
 
-  front_back : (front : List Elem) (a : Elem) → IsFront table conditions (map fixed_on levels) (front ++ a ∷ []) → IsFront table conditions (map fixed_on levels) front
+  front_back : (front : List Elem) (a : Elem) → IsFoundFront table conditions (map fixed_on levels) (front ++ a ∷ []) → IsFoundFront table conditions (map fixed_on levels) front
   front_back front a is = record {
     met = λ t c under. met_front table front (a ∷ []) t under (is.met t c (under_more (length front) (length (front ++ a ∷ [])) t (omega (arith, length_more front a)) under));
     fixed_are = λ k n below fixed. sym (get_front front (a ∷ []) k below) ∙ is.fixed_are k n (omega (arith, length_more front a)) fixed;
@@ -306,7 +306,7 @@ module _ (table : List TableRow) (conditions : List Condition) (levels : List Le
 
   pub goes_deeper : (place : SearchPlace) (front : List Elem) (after : Option Elem) (e : Elem) (l : Level) → slice_get levels (length front) ≡ Some l
       → suc (suc (length front)) ≤ length levels → IsLeastAbove (Fits table conditions l front) after (Some e)
-      → IsAt table conditions (map fixed_on levels) place front after → IsAt table conditions (map fixed_on levels) place (front ++ e ∷ []) None
+      → IsAtFront table conditions (map fixed_on levels) place front after → IsAtFront table conditions (map fixed_on levels) place (front ++ e ∷ []) None
   goes_deeper place front after e s at more least is = record {
     front_is = front_grows front e s at is.front_is least.0;
     beyond = λ images found behind. deeper_beyond front after e images (is.beyond images found behind) (not_above front after e s images at least found) (omega (arith, more, long images found));
@@ -315,7 +315,7 @@ module _ (table : List TableRow) (conditions : List Condition) (levels : List Le
 
   pub goes_back : (place : SearchPlace) (front : List Elem) (a : Elem) (after : Option Elem) (l : Level) → slice_get levels (length (front ++ a ∷ [])) ≡ Some l
       → IsLeastAbove (Fits table conditions l (front ++ a ∷ [])) after None
-      → IsAt table conditions (map fixed_on levels) place (front ++ a ∷ []) after → IsAt table conditions (map fixed_on levels) place front (Some a)
+      → IsAtFront table conditions (map fixed_on levels) place (front ++ a ∷ []) after → IsAtFront table conditions (map fixed_on levels) place front (Some a)
   goes_back place front a after s at none is = record {
     front_is = front_back front a is.front_is;
     beyond = λ images found behind. back_beyond front a after images (is.beyond images found behind)
@@ -324,7 +324,7 @@ module _ (table : List TableRow) (conditions : List Condition) (levels : List Le
   }
 
   found_front : (front : List Elem) → length front ≡ length levels → ((c : Condition) → Contains conditions c → IsUnder (length levels) c)
-      → IsFront table conditions (map fixed_on levels) front → IsFound table conditions (map fixed_on levels) front
+      → IsFoundFront table conditions (map fixed_on levels) front → IsFound table conditions (map fixed_on levels) front
   found_front front count under is = record {
     count = count ∙ sym (levels_long levels);
     met = λ c there. is.met c there (rw count (under c there));
@@ -334,7 +334,7 @@ module _ (table : List TableRow) (conditions : List Condition) (levels : List Le
   pub gives_least : (place : SearchPlace) (front : List Elem) (after : Option Elem) (e : Elem) (l : Level) → slice_get levels (length front) ≡ Some l
       → suc (length front) ≡ length levels → ((c : Condition) → Contains conditions c → IsUnder (length levels) c)
       → IsLeastAbove (Fits table conditions l front) after (Some e)
-      → IsAt table conditions (map fixed_on levels) place front after → IsLeast table conditions (map fixed_on levels) place (front ++ e ∷ [])
+      → IsAtFront table conditions (map fixed_on levels) place front after → IsLeast table conditions (map fixed_on levels) place (front ++ e ∷ [])
   gives_least place front after e s at count under least is =
       let whole : length (front ++ e ∷ []) ≡ length levels = length_more front e ∙ count in
       record {
@@ -344,12 +344,12 @@ module _ (table : List TableRow) (conditions : List Condition) (levels : List Le
       }
 
   pub gives_none : (place : SearchPlace) (after : Option Elem) (l : Level) → slice_get levels 0 ≡ Some l → IsLeastAbove (Fits table conditions l []) after None
-      → IsAt table conditions (map fixed_on levels) place [] after
-      → (others : List Elem) → IsFound table conditions (map fixed_on levels) others → IsBehind place others → ⊥
+      → IsAtFront table conditions (map fixed_on levels) place [] after
+      → (others : List Elem) → IsFound table conditions (map fixed_on levels) others → IsBehindPlace place others → ⊥
   gives_none place after s at none is [] found behind = is.beyond [] found behind
   gives_none place after s at none is (m ∷ rest) found behind = none m (match_fits [] m rest s at found) (is.beyond (m ∷ rest) found behind)
 
-  pub starts : 1 ≤ length levels → IsAt table conditions (map fixed_on levels) Start [] None
+  pub starts : 1 ≤ length levels → IsAtFront table conditions (map fixed_on levels) Start [] None
   starts some = record {
     front_is = record {
       met = λ c there under. absurd (none_under c under);
@@ -364,7 +364,7 @@ module _ (table : List TableRow) (conditions : List Condition) (levels : List Le
       by (x ∷ xs) count = tt
 
   pub stands : (front : List Elem) (a : Elem) → suc (length front) ≡ length levels → IsFound table conditions (map fixed_on levels) (front ++ a ∷ [])
-      → IsAt table conditions (map fixed_on levels) (Behind (front ++ a ∷ [])) front (Some a)
+      → IsAtFront table conditions (map fixed_on levels) (Behind (front ++ a ∷ [])) front (Some a)
   stands front a count found = record {
     front_is = front_back front a (record { met = λ t c under. found.met t c; fixed_are = λ k n below fixed. found.fixed_are k n fixed });
     beyond = λ images other behind. behind_beyond front a images (long images other ∙ sym count) behind;
@@ -372,7 +372,7 @@ module _ (table : List TableRow) (conditions : List Condition) (levels : List Le
   }
 
   pub stands_past : (front : List Elem) (a : Elem) (rest : List Elem) → IsFound table conditions (map fixed_on levels) (front ++ a ∷ rest)
-      → IsAt table conditions (map fixed_on levels) (Past (suc (length front)) (front ++ a ∷ rest)) front (Some a)
+      → IsAtFront table conditions (map fixed_on levels) (Past (suc (length front)) (front ++ a ∷ rest)) front (Some a)
   stands_past front a rest found = record {
     front_is = record {
       met = λ t c under. met_front table front (a ∷ rest) t under (found.met t c);

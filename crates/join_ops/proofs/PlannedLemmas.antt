@@ -11,14 +11,14 @@ use Rattle.dl_base.specs.declared.element.Elem.{Elem}
 use Rattle.dl_base.proofs.ElemLemmas.{elem_same}
 use Rattle.dl_base.proofs.PlaceLemmas.{map_contains, map_from, place_of}
 use Rattle.dl_base.proofs.RisingLemmas.{contains_first, slice_same}
-use Rattle.join_ops.specs.Joins.{SearchPlace, Search, HasAllLeft, Behind, AreLeft, Advances, IsFixed, IsFound, IsLast, IsNext, SkipsAlike}
+use Rattle.join_ops.specs.Joins.{SearchPlace, Search, HasAllLeft, Behind, AreLeft, Advances, IsFixed, IsFound, IsLast, StandsBehindFirst, SkipsAlike}
 use Rattle.query_shape.specs.Shape.{Layout, IsLayout, IsShapeMatch}
 use Rattle.join_plan.specs.Plans.{IsPlanOf}
 use Rattle.join_plan.specs.declared.steps.Step.{Step}
 use Rattle.tree_witness.specs.Trees.{IsEntryBelow, Trees}
 use Rattle.join_ops.specs.Conditions.{IsUnder, Meets}
 use Rattle.join_ops.specs.Levels.{AreOnLevels}
-use Rattle.join_ops.specs.Matching.{AreMatches, ArePassing, GoesTo, HasLeft, PlannedSearch, SkipsAgreeing}
+use Rattle.join_ops.specs.Matching.{AreMatches, ArePassing, GoesTo, HasMatchesLeft, PlannedSearch, SkipsAgreeing}
 use Rattle.join_ops.specs.Orders.{AgreeUpTo, AreLevelsBy, fixed_in, images_of}
 use Rattle.join_ops.specs.Planned.{AddsTwins, AreLeveled, AreTwinsBy, BeginsBy, leveled_atoms}
 use Rattle.join_ops.specs.declared.condition.Condition.{Condition}
@@ -28,8 +28,8 @@ use Rattle.join_ops.proofs.TwinLemmas.{twins_met, twins_under}
 use Rattle.join_ops.proofs.LeftLemmas.{images_total}
 
 -- what is left to another search over the same levels
-still_left : (table : List TableRow) (m : PlannedSearch) (left : List (List Elem)) → HasLeft table m left → (search : Search) → search.fixed ≡ m.search.fixed → (rest : List (List Elem)) → AreLeft table search rest
-    → HasLeft table (record { levels = m.levels; search = search }) (map (images_of m.levels) rest)
+still_left : (table : List TableRow) (m : PlannedSearch) (left : List (List Elem)) → HasMatchesLeft table m left → (search : Search) → search.fixed ≡ m.search.fixed → (rest : List (List Elem)) → AreLeft table search rest
+    → HasMatchesLeft table (record { levels = m.levels; search = search }) (map (images_of m.levels) rest)
 still_left table m left has search same rest goes_on = record {
   by_level = rest;
   are = refl;
@@ -38,10 +38,10 @@ still_left table m left has search same rest goes_on = record {
   covers = λ level below. has.covers level (subst (λ (l : List (Option ℕ)). level < length l) same below);
 }
 
-pub goes_to : (table : List TableRow) (m : PlannedSearch) (left : List (List Elem)) → HasLeft table m left → (search : Search) → search.fixed ≡ m.search.fixed → (found : Bool) → ((rest : List (List Elem)) → AreLeft table m.search rest → Advances table rest found search)
+pub goes_to : (table : List TableRow) (m : PlannedSearch) (left : List (List Elem)) → HasMatchesLeft table m left → (search : Search) → search.fixed ≡ m.search.fixed → (found : Bool) → ((rest : List (List Elem)) → AreLeft table m.search rest → Advances table rest found search)
     → GoesTo table m.search.place left found (record { levels = m.levels; search = search })
 goes_to table m left has search same true advances =
-    let next : IsNext table has.by_level search = advances has.by_level has.goes_on in
+    let next : StandsBehindFirst table has.by_level search = advances has.by_level has.goes_on in
     record {
       elements = next.images;
       others = map (images_of m.levels) next.others;
@@ -95,7 +95,7 @@ module _ (levels : List ℕ) (count : ℕ) (within : (term level : ℕ) → slic
           let on : slice_get levels term.0 ≡ Some k = place_of levels k term in
           get_taken n k ys below ∙ sym (image_at levels ys term.0 k on (omega (arith, inside, long_ys))) ∙ sym (agree term.0 k on below) ∙ image_at levels xs term.0 k on (omega (arith, inside, long_xs)) ∙ here
 
-pub skips_agreeing : (table : List TableRow) (m : PlannedSearch) (left : List (List Elem)) → HasLeft table m left → ((term level : ℕ) → slice_get m.levels term ≡ Some level → level < length m.search.fixed)
+pub skips_agreeing : (table : List TableRow) (m : PlannedSearch) (left : List (List Elem)) → HasMatchesLeft table m left → ((term level : ℕ) → slice_get m.levels term ≡ Some level → level < length m.search.fixed)
     → (search : Search) → search.fixed ≡ m.search.fixed → (n : ℕ) (last : List Elem) → m.search.place ≡ Behind last
     → ((rest : List (List Elem)) → AreLeft table m.search rest → SkipsAlike table rest n last search) → SkipsAgreeing table left n last (record { levels = m.levels; search = search })
 skips_agreeing table m left has within search same n last stands skips =
@@ -163,7 +163,7 @@ module _ (s : Layout) (steps : List Step) (layout : IsLayout s) (plan : IsPlanOf
       abbrev all_images : List (List Elem)
       all_images = map (images_of l.levels) (begins table).0
 
-      all_left : HasLeft table (record { levels = l.levels; search = search }) all_images
+      all_left : HasMatchesLeft table (record { levels = l.levels; search = search }) all_images
       all_left = record {
         by_level = (begins table).0;
         are = refl;
@@ -195,7 +195,7 @@ module _ (s : Layout) (steps : List Step) (layout : IsLayout s) (plan : IsPlanOf
   atoms_on = on_these [] no_under l.conditions.items no_more
 
   begins_all : (search : Search) → search.fixed ≡ l.fixed.items → HasAllLeft l.conditions.items l.fixed.items search → (table : List TableRow)
-      → (left : List (List Elem)) × HasLeft table (record { levels = l.levels; search = search }) left × AreMatches table s fixed left
+      → (left : List (List Elem)) × HasMatchesLeft table (record { levels = l.levels; search = search }) left × AreMatches table s fixed left
   begins_all search same begins table = (
     all_images [] no_under l.conditions.items no_more search same begins table,
     all_left [] no_under l.conditions.items no_more search same begins table,
@@ -208,9 +208,9 @@ module _ (s : Layout) (steps : List Step) (layout : IsLayout s) (plan : IsPlanOf
     },
   )
 
-  pub begins_by : (m : PlannedSearch) → BeginsBy l m → (table : List TableRow) → (left : List (List Elem)) × HasLeft table m left × AreMatches table s fixed left
+  pub begins_by : (m : PlannedSearch) → BeginsBy l m → (table : List TableRow) → (left : List (List Elem)) × HasMatchesLeft table m left × AreMatches table s fixed left
   begins_by m by table =
-      subst (λ (levels : List ℕ). (left : List (List Elem)) × HasLeft table (record { levels = levels; search = m.search }) left × AreMatches table s fixed left) (sym by.levels_are)
+      subst (λ (levels : List ℕ). (left : List (List Elem)) × HasMatchesLeft table (record { levels = levels; search = m.search }) left × AreMatches table s fixed left) (sym by.levels_are)
       (begins_all m.search by.fixed_are by.begins table)
 
   -- and with the twins of trees besides
@@ -225,7 +225,7 @@ module _ (s : Layout) (steps : List Step) (layout : IsLayout s) (plan : IsPlanOf
     twins_on = on_these adds.0 twins_are_under conditions adds.1
 
     begins_passing : (search : Search) → search.fixed ≡ l.fixed.items → HasAllLeft conditions l.fixed.items search → (table : List TableRow)
-        → (left : List (List Elem)) × HasLeft table (record { levels = l.levels; search = search }) left × ArePassing table s trees fixed left
+        → (left : List (List Elem)) × HasMatchesLeft table (record { levels = l.levels; search = search }) left × ArePassing table s trees fixed left
     begins_passing search same begins table = (
       all_images adds.0 twins_are_under conditions adds.1 search same begins table,
       all_left adds.0 twins_are_under conditions adds.1 search same begins table,
@@ -238,7 +238,7 @@ module _ (s : Layout) (steps : List Step) (layout : IsLayout s) (plan : IsPlanOf
     )
 
     pub passing_by : (m : PlannedSearch) → m.levels ≡ l.levels → m.search.fixed ≡ l.fixed.items → HasAllLeft conditions l.fixed.items m.search → (table : List TableRow)
-        → (left : List (List Elem)) × HasLeft table m left × ArePassing table s trees fixed left
+        → (left : List (List Elem)) × HasMatchesLeft table m left × ArePassing table s trees fixed left
     passing_by m levels_are fixed_are begins table =
-        subst (λ (levels : List ℕ). (left : List (List Elem)) × HasLeft table (record { levels = levels; search = m.search }) left × ArePassing table s trees fixed left) (sym levels_are)
+        subst (λ (levels : List ℕ). (left : List (List Elem)) × HasMatchesLeft table (record { levels = levels; search = m.search }) left × ArePassing table s trees fixed left) (sym levels_are)
         (begins_passing m.search fixed_are begins table)

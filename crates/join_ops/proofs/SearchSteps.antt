@@ -6,8 +6,8 @@ use Rattle.std.proofs.lemmas.List.{append_assoc, take_more_set, length-take-le, 
 use Rattle.std.proofs.lemmas.Option.{slice_get-get_or}
 use Rattle.dl_base.specs.Tables.{TableRow, IsLeastAbove}
 use Rattle.dl_base.specs.declared.element.Elem.{Elem}
-use Rattle.join_ops.specs.Joins.{SearchPlace, Start, Behind, Past, IsFound, IsBehind}
-use Rattle.join_ops.specs.Levels.{fixed_on, Fits, IsAt, IsLeast, IsSearch, IsWellPlaced}
+use Rattle.join_ops.specs.Joins.{SearchPlace, Start, Behind, Past, IsFound, IsBehindPlace}
+use Rattle.join_ops.specs.Levels.{fixed_on, Fits, IsAtFront, IsLeast, IsSearch, IsWellPlaced}
 use Rattle.join_ops.specs.declared.condition.Condition.{Condition}
 use Rattle.join_ops.specs.declared.level.Level.{Level}
 use Rattle.join_ops.proofs.LevelLemmas.{level_within, goes_deeper, goes_back, gives_least, gives_none, starts, stands, stands_past}
@@ -50,7 +50,7 @@ module _ (table : List TableRow) (conditions : List Condition) (levels : List Le
 
   pub deeper_step : (place : SearchPlace) (after : Option Elem) (e : Elem) (l : Level) → l ≡ get_or levels level l → (level + 1 ≡ length (set images level e) → ⊥)
       → IsLeastAbove (Fits table conditions l (take level images)) after (Some e)
-      → IsAt table conditions (map fixed_on levels) place (take level images) after → IsAt table conditions (map fixed_on levels) place (take (level + 1) (set images level e)) None
+      → IsAtFront table conditions (map fixed_on levels) place (take level images) after → IsAtFront table conditions (map fixed_on levels) place (take (level + 1) (set images level e)) None
   deeper_step place after e l at more least is =
       let next = goes_deeper table conditions levels search.levels_are place (take level images) after e l (level_is l at)
       (omega (arith, long, search.each, more, length-set images level e)) least is in
@@ -68,7 +68,7 @@ module _ (table : List TableRow) (conditions : List Condition) (levels : List Le
 
   pub last_step : (place : SearchPlace) (after : Option Elem) (e : Elem) (l : Level) → l ≡ get_or levels level l → level + 1 ≡ length (set images level e)
       → IsLeastAbove (Fits table conditions l (take level images)) after (Some e)
-      → IsAt table conditions (map fixed_on levels) place (take level images) after → IsLeast table conditions (map fixed_on levels) place (set images level e)
+      → IsAtFront table conditions (map fixed_on levels) place (take level images) after → IsLeast table conditions (map fixed_on levels) place (set images level e)
   last_step place after e l at last least is =
       let found = gives_least table conditions levels search.levels_are place (take level images) after e l (level_is l at)
       (omega (arith, long, search.each, last, length-set images level e)) (λ a c. rw search.each (search.under a c)) least is in
@@ -76,7 +76,7 @@ module _ (table : List TableRow) (conditions : List Condition) (levels : List Le
 
   pub back_step : (place : SearchPlace) (after : Option Elem) (l : Level) → l ≡ get_or levels level l → (x : Elem) → (level ≡ 0 → ⊥)
       → IsLeastAbove (Fits table conditions l (take level images)) after None
-      → IsAt table conditions (map fixed_on levels) place (take level images) after → IsAt table conditions (map fixed_on levels) place (take (level - 1) images) (Some (get_or images (level - 1) x))
+      → IsAtFront table conditions (map fixed_on levels) place (take level images) after → IsAtFront table conditions (map fixed_on levels) place (take (level - 1) images) (Some (get_or images (level - 1) x))
   back_step place after l at x some none is =
       let front = take_back images level x below some in
       goes_back table conditions levels search.levels_are place (take (level - 1) images) (get_or images (level - 1) x) after l
@@ -92,8 +92,8 @@ module _ (table : List TableRow) (conditions : List Condition) (levels : List Le
 
   pub none_step : (place : SearchPlace) (after : Option Elem) (l : Level) → l ≡ get_or levels level l → level ≡ 0
       → IsLeastAbove (Fits table conditions l (take level images)) after None
-      → IsAt table conditions (map fixed_on levels) place (take level images) after
-      → (others : List Elem) → IsFound table conditions (map fixed_on levels) others → IsBehind place others → ⊥
+      → IsAtFront table conditions (map fixed_on levels) place (take level images) after
+      → (others : List Elem) → IsFound table conditions (map fixed_on levels) others → IsBehindPlace place others → ⊥
   none_step place after l at first none is =
       let begin : slice_get levels 0 ≡ Some l = ap (λ (n : ℕ). slice_get levels n) (sym first) ∙ slice_get-get_or levels level l within ∙ ap Some (sym at) in
       let front : take level images ≡ [] = ap (λ (n : ℕ). take n images) first in
@@ -115,16 +115,16 @@ whole_last images d some =
 -- where a search goes on from the match that it gave last
 pub stand_step : (table : List TableRow) (conditions : List Condition) (levels : List Level) (images : List Elem) (d : Elem) → IsSearch conditions levels (length images)
     → IsFound table conditions (map fixed_on levels) images
-    → IsAt table conditions (map fixed_on levels) (Behind images) (take (length images - 1) images) (Some (get_or images (length images - 1) d))
+    → IsAtFront table conditions (map fixed_on levels) (Behind images) (take (length images - 1) images) (Some (get_or images (length images - 1) d))
 stand_step table conditions levels images d search found =
     let whole = whole_last images d search.some in
     let front = take (length images - 1) images in
     let a = get_or images (length images - 1) d in
     let long : length front ≡ length images - 1 = length-take-le (length images - 1) images (omega arith) in
     let at = stands table conditions levels search.levels_are front a (omega (arith, long, search.each, search.some)) (subst (IsFound table conditions (map fixed_on levels)) whole found) in
-    subst (λ (l : List Elem). IsAt table conditions (map fixed_on levels) (Behind l) front (Some a)) (sym whole) at
+    subst (λ (l : List Elem). IsAtFront table conditions (map fixed_on levels) (Behind l) front (Some a)) (sym whole) at
 
-pub start_step : (table : List TableRow) (conditions : List Condition) (levels : List Level) (n : ℕ) → IsSearch conditions levels n → IsAt table conditions (map fixed_on levels) Start [] None
+pub start_step : (table : List TableRow) (conditions : List Condition) (levels : List Level) (n : ℕ) → IsSearch conditions levels n → IsAtFront table conditions (map fixed_on levels) Start [] None
 start_step table conditions levels n search = starts table conditions levels search.levels_are (omega (arith, search.each, search.some))
 
 -- so many first ones, or as many as there are
@@ -135,7 +135,7 @@ shared_take n m xs (inr (all, most)) = take_all n xs (omega (arith, all, most)) 
 -- where a search goes on behind all that have so many first images as the match that it gave last
 pub past_step : (table : List TableRow) (conditions : List Condition) (levels : List Level) (images : List Elem) (d : Elem) (n level : ℕ) → IsSearch conditions levels (length images)
     → IsFound table conditions (map fixed_on levels) images → level < length images → (n ≡ suc level) ⊎ ((suc level ≡ length images) × (suc level ≤ n))
-    → IsAt table conditions (map fixed_on levels) (Past n images) (take level images) (Some (get_or images level d))
+    → IsAtFront table conditions (map fixed_on levels) (Past n images) (take level images) (Some (get_or images level d))
 past_step table conditions levels images d n level search found below shared =
     let front = take level images in
     let a = get_or images level d in
@@ -143,9 +143,9 @@ past_step table conditions levels images d n level search found below shared =
     let parts : images ≡ front ++ a ∷ drop (suc level) images =
     sym (take-append-drop (suc level) images) ∙ ap (λ (l : List Elem). l ++ drop (suc level) images) (take-suc images level d below) ∙ append_assoc front (a ∷ []) (drop (suc level) images) in
     let at = stands_past table conditions levels search.levels_are front a (drop (suc level) images) (subst (IsFound table conditions (map fixed_on levels)) parts found) in
-    let here : IsAt table conditions (map fixed_on levels) (Past (suc level) images) front (Some a) =
-    subst (λ (l : List Elem). IsAt table conditions (map fixed_on levels) (Past (suc level) l) front (Some a)) (sym parts)
-    (subst (λ (k : ℕ). IsAt table conditions (map fixed_on levels) (Past (suc k) (front ++ a ∷ drop (suc level) images)) front (Some a)) long at) in
+    let here : IsAtFront table conditions (map fixed_on levels) (Past (suc level) images) front (Some a) =
+    subst (λ (l : List Elem). IsAtFront table conditions (map fixed_on levels) (Past (suc level) l) front (Some a)) (sym parts)
+    (subst (λ (k : ℕ). IsAtFront table conditions (map fixed_on levels) (Past (suc k) (front ++ a ∷ drop (suc level) images)) front (Some a)) long at) in
     record {
       front_is = here.front_is;
       beyond = λ others other behind. here.beyond others other (rw (← same images refl, ← same others (other.count ∙ sym found.count)) behind);

@@ -8,7 +8,7 @@ use Rattle.query_shape.specs.Shape.{IsBelow, IsTermOf}
 use Rattle.query_shape.specs.declared.layout.ShapeAtom.{ShapeAtom}
 use Rattle.query_shape.specs.declared.layout.ShapeAtom.TheVariants as shape
 use Rattle.join_ops.specs.Conditions.{IsUnder}
-use Rattle.join_ops.specs.Levels.{fixed_on, IsLevel, AreLevels, AreOnLevels, IsSearch}
+use Rattle.join_ops.specs.Levels.{fixed_on, IsTermLevel, AreLevels, AreOnLevels, IsSearch}
 use Rattle.join_ops.specs.declared.condition.Condition.{Condition}
 use Rattle.join_ops.specs.declared.condition.Condition.TheVariants as condition
 use Rattle.join_ops.specs.declared.level.Level.{Level}
@@ -25,17 +25,17 @@ fixed_more levels l fixed term d below are is =
     front ∙ ap (λ (os : List (Option ℕ)). os ++ fixed_on l ∷ []) are ∙ ap (λ (o : Option ℕ). take term fixed ++ o ∷ []) is ∙ sym more ∙ ap (λ (n : ℕ). take n fixed) (sym (add-one term))
 
 pub levels_more : (conditions : List Condition) (levels : List Level) (l : Level) (fixed : List (Option ℕ)) (term : ℕ) → term < length fixed → map fixed_on levels ≡ take term fixed
-    → AreLevels conditions levels → IsLevel conditions term l → AreLevels conditions (levels ++ l ∷ [])
+    → AreLevels conditions levels → IsTermLevel conditions term l → AreLevels conditions (levels ++ l ∷ [])
 levels_more conditions levels l fixed term below are before is k m at = by (last_or k (length levels) (let within = slice_get_within (levels ++ l ∷ []) k m at in omega (arith, within, length_more levels l)))
   where
-    by : (k < length levels) ⊎ (length levels ≡ k) → IsLevel conditions k m
+    by : (k < length levels) ⊎ (length levels ≡ k) → IsTermLevel conditions k m
     by (inl less) = before k m (sym (get_front levels (l ∷ []) k less) ∙ at)
     by (inr same) =
         let last : slice_get (levels ++ l ∷ []) (length levels) ≡ Some l = get_at levels l [] in
         let there : slice_get (levels ++ l ∷ []) (length levels) ≡ Some m = ap (λ (n : ℕ). slice_get (levels ++ l ∷ []) n) same ∙ at in
         let is_it : l ≡ m = some_same (sym last ∙ there) in
         let place : term ≡ k = sym (so_far levels fixed term below are) ∙ same in
-        subst (λ (n : ℕ). IsLevel conditions n m) place (subst (λ (x : Level). IsLevel conditions term x) is_it is)
+        subst (λ (n : ℕ). IsTermLevel conditions n m) place (subst (λ (x : Level). IsTermLevel conditions term x) is_it is)
 
 some_below : (count : ℕ) (a : ShapeAtom) → IsBelow count a → 1 ≤ count
 some_below count (shape.Concept c n) below = omega arith

@@ -34,11 +34,11 @@ pub record IsFound (table : List TableRow) (conditions : List Condition) (fixed 
   pub fixed_are : IsFixed fixed images
 
 -- the images are above those that were given last, or so many first ones of them are
-abbrev pub IsBehind : SearchPlace → List Elem → Type 0
-IsBehind Start images = Unit {0}
-IsBehind (Behind last) images = slice_cmp elem_cmp last images ≡ Less
-IsBehind (Past n last) images = slice_cmp elem_cmp (take n last) (take n images) ≡ Less
-IsBehind End images = ⊥
+abbrev pub IsBehindPlace : SearchPlace → List Elem → Type 0
+IsBehindPlace Start images = Unit {0}
+IsBehindPlace (Behind last) images = slice_cmp elem_cmp last images ≡ Less
+IsBehindPlace (Past n last) images = slice_cmp elem_cmp (take n last) (take n images) ≡ Less
+IsBehindPlace End images = ⊥
 
 -- the search doesn't stand behind what it gave last
 abbrev pub IsAway : SearchPlace → Type 0
@@ -55,7 +55,7 @@ IsLast table conditions fixed End = Unit {0}
 pub record AreLeft (table : List TableRow) (search : Search) (left : List (List Elem)) : Type 0 where
   pub last : IsLast table search.conditions search.fixed search.place
   pub rising : IsStrictlySortedBy (slice_cmp elem_cmp) left
-  pub each : (images : List Elem) → Contains left images ↔ (IsFound table search.conditions search.fixed images × IsBehind search.place images)
+  pub each : (images : List Elem) → Contains left images ↔ (IsFound table search.conditions search.fixed images × IsBehindPlace search.place images)
 
 -- in any table the search has all left that is found, each once
 abbrev pub HasAllLeft : List Condition → List (Option ℕ) → Search → Type 0
@@ -63,7 +63,7 @@ HasAllLeft conditions fixed search = (table : List TableRow) → (left : List (L
     × ((elements : List Elem) → Contains left elements ↔ IsFound table conditions fixed elements)
 
 -- the search stands behind the first of these, and has the others left
-pub record IsNext (table : List TableRow) (left : List (List Elem)) (search : Search) : Type 0 where
+pub record StandsBehindFirst (table : List TableRow) (left : List (List Elem)) (search : Search) : Type 0 where
   pub images : List Elem
   pub others : List (List Elem)
   pub first : left ≡ images ∷ others
@@ -72,7 +72,7 @@ pub record IsNext (table : List TableRow) (left : List (List Elem)) (search : Se
 
 -- the search went on to the first of these, or says that there is none
 abbrev pub Advances : List TableRow → List (List Elem) → Bool → Search → Type 0
-Advances table left true search = IsNext table left search
+Advances table left true search = StandsBehindFirst table left search
 Advances table left false search = (left ≡ []) × AreLeft table search []
 
 -- the search has left what was left, without those that have so many first images as the last match has

@@ -7,7 +7,7 @@ use Rattle.dl_base.specs.declared.element.Elem.{Elem}
 use Rattle.dl_base.specs.declared.element.Elem.TheVariants as elem
 use Rattle.query_shape.specs.Shape.{HoldsAt, IsTermOf}
 use Rattle.query_shape.specs.declared.layout.ShapeAtom.{ShapeAtom}
-use Rattle.join_ops.specs.Joins.{SearchPlace, Start, Behind, Past, End, IsFound, IsBehind}
+use Rattle.join_ops.specs.Joins.{SearchPlace, Start, Behind, Past, End, IsFound, IsBehindPlace}
 use Rattle.join_ops.specs.Conditions.{IsLevelOf, IsUnder, Meets}
 use Rattle.join_ops.specs.declared.condition.Condition.{Condition}
 use Rattle.join_ops.specs.declared.condition.Condition.TheVariants as condition
@@ -32,8 +32,8 @@ abbrev pub fixed_on : Level → Option ℕ
 fixed_on l = fixed_of l.source
 
 -- the edge leads to the element, where the terms in front have these
-abbrev pub LeadsTo : List TableRow → Edge → List Elem → Elem → Type 0
-LeadsTo table g front e = (f : Elem) × (slice_get front g.from ≡ Some f) × Contains table (edge_row g.role f e)
+abbrev pub EdgeLeadsTo : List TableRow → Edge → List Elem → Elem → Type 0
+EdgeLeadsTo table g front e = (f : Elem) × (slice_get front g.from ≡ Some f) × Contains table (edge_row g.role f e)
 
 -- if the child's element is a witness of the role, it is the parent's
 abbrev pub IsTwin : Twins → List Elem → Elem → Type 0
@@ -44,8 +44,8 @@ abbrev pub Offers : List TableRow → Source → List Elem → Elem → Type 0
 Offers table (source.Named n) front e = e ≡ elem.Named n
 Offers table (source.Concept c) front e = Contains table (ConceptRow c e)
 Offers table (source.Outgoing r) front e = HasEdge table r e
-Offers table (source.Edge g) front e = LeadsTo table g front e
-Offers table (source.Twin g t) front e = LeadsTo table g front e × IsTwin t front e
+Offers table (source.Edge g) front e = EdgeLeadsTo table g front e
+Offers table (source.Twin g t) front e = EdgeLeadsTo table g front e × IsTwin t front e
 
 -- what is offered comes from so many terms in front
 abbrev pub IsFromFront : ℕ → Source → Type 0
@@ -56,8 +56,8 @@ IsFromFront k (source.Edge g) = g.from < k
 IsFromFront k (source.Twin g t) = (g.from < k) × (t.parent < k) × (t.child < k)
 
 -- whatever is offered for the term of this level, the condition is met with it
-abbrev pub Gives : Source → ℕ → Condition → Type 0
-Gives s k c = (table : List TableRow) (front : List Elem) (e : Elem) → length front ≡ k → IsFromFront k s → Offers table s front e → Meets table (front ++ e ∷ []) c
+abbrev pub HoldsByOffer : Source → ℕ → Condition → Type 0
+HoldsByOffer s k c = (table : List TableRow) (front : List Elem) (e : Elem) → length front ≡ k → IsFromFront k s → Offers table s front e → Meets table (front ++ e ∷ []) c
 
 -- the source offers nothing but where the edge leads
 abbrev pub IsAlong : Edge → Source → Type 0
@@ -104,7 +104,7 @@ IsChecked conditions checks c = (i : ℕ) × Contains checks i × (slice_get con
 -- the places of conditions that speak of this level and of none above; all of them, but for those that hold by what is offered
 pub record AreChecks (conditions : List Condition) (s : Source) (k : ℕ) (checks : List ℕ) : Type 0 where
   pub under : AreUnder conditions (suc k) checks
-  pub all : (c : Condition) → Contains conditions c → IsLevelOf k c → IsUnder (suc k) c → IsChecked conditions checks c ⊎ Gives s k c
+  pub all : (c : Condition) → Contains conditions c → IsLevelOf k c → IsUnder (suc k) c → IsChecked conditions checks c ⊎ HoldsByOffer s k c
 
 -- the level offers from what is in front, and tests what then has its elements
 pub record IsWellPlaced (conditions : List Condition) (k : ℕ) (l : Level) : Type 0 where
@@ -112,12 +112,12 @@ pub record IsWellPlaced (conditions : List Condition) (k : ℕ) (l : Level) : Ty
   pub under : AreUnder conditions (suc k) l.checks.items
 
 -- a level for each term
-pub record IsLevel (conditions : List Condition) (k : ℕ) (l : Level) : Type 0 where
+pub record IsTermLevel (conditions : List Condition) (k : ℕ) (l : Level) : Type 0 where
   pub source_is : IsSource conditions k l.source
   pub checks_are : AreChecks conditions l.source k l.checks.items
 
 abbrev pub AreLevels : List Condition → List Level → Type 0
-AreLevels conditions levels = (k : ℕ) (l : Level) → slice_get levels k ≡ Some l → IsLevel conditions k l
+AreLevels conditions levels = (k : ℕ) (l : Level) → slice_get levels k ≡ Some l → IsTermLevel conditions k l
 
 -- an element for the term behind these in front
 pub record Fits (table : List TableRow) (conditions : List Condition) (l : Level) (front : List Elem) (e : Elem) : Type 0 where
@@ -125,11 +125,11 @@ pub record Fits (table : List TableRow) (conditions : List Condition) (l : Level
   pub passes : MeetsAll table conditions l.checks.items (front ++ e ∷ [])
 
 -- the place that is kept as the images and what they are
-abbrev pub place_at : At → List Elem → SearchPlace
-place_at at.Start images = Start
-place_at at.Behind images = Behind images
-place_at (at.Past n) images = Past n images
-place_at at.End images = End
+abbrev pub search_place : At → List Elem → SearchPlace
+search_place at.Start images = Start
+search_place at.Behind images = Behind images
+search_place (at.Past n) images = Past n images
+search_place at.End images = End
 
 -- the images begin above the front, or with it and go on above that element
 abbrev pub IsBeyond : List Elem → Option Elem → List Elem → Type 0
@@ -138,26 +138,26 @@ IsBeyond [] after (x ∷ xs) = IsAbove after x
 IsBeyond (f ∷ fs) after (x ∷ xs) = (elem_cmp f x ≡ Less) ⊎ ((f ≡ x) × IsBeyond fs after xs)
 
 -- each condition on these terms is met, and each fixed one of them is on its individual
-pub record IsFront (table : List TableRow) (conditions : List Condition) (fixed : List (Option ℕ)) (front : List Elem) : Type 0 where
+pub record IsFoundFront (table : List TableRow) (conditions : List Condition) (fixed : List (Option ℕ)) (front : List Elem) : Type 0 where
   pub met : (c : Condition) → Contains conditions c → IsUnder (length front) c → Meets table front c
   pub fixed_are : (k n : ℕ) → k < length front → slice_get fixed k ≡ Some (Some n) → slice_get front k ≡ Some (elem.Named n)
 
 -- what is behind the place is what goes on above this element of the next term
-pub record IsAt (table : List TableRow) (conditions : List Condition) (fixed : List (Option ℕ)) (place : SearchPlace) (front : List Elem) (after : Option Elem) : Type 0 where
-  pub front_is : IsFront table conditions fixed front
-  pub beyond : (images : List Elem) → IsFound table conditions fixed images → IsBehind place images → IsBeyond front after images
-  pub behind : (images : List Elem) → length images ≡ length fixed → IsBeyond front after images → IsBehind place images
+pub record IsAtFront (table : List TableRow) (conditions : List Condition) (fixed : List (Option ℕ)) (place : SearchPlace) (front : List Elem) (after : Option Elem) : Type 0 where
+  pub front_is : IsFoundFront table conditions fixed front
+  pub beyond : (images : List Elem) → IsFound table conditions fixed images → IsBehindPlace place images → IsBeyond front after images
+  pub behind : (images : List Elem) → length images ≡ length fixed → IsBeyond front after images → IsBehindPlace place images
 
 -- the least of the matches behind the place
 pub record IsLeast (table : List TableRow) (conditions : List Condition) (fixed : List (Option ℕ)) (place : SearchPlace) (images : List Elem) : Type 0 where
   pub found : IsFound table conditions fixed images
-  pub behind : IsBehind place images
-  pub least : (others : List Elem) → IsFound table conditions fixed others → IsBehind place others → (images ≡ others) ⊎ (slice_cmp elem_cmp images others ≡ Less)
+  pub behind : IsBehindPlace place images
+  pub least : (others : List Elem) → IsFound table conditions fixed others → IsBehindPlace place others → (images ≡ others) ⊎ (slice_cmp elem_cmp images others ≡ Less)
 
 -- it is that match, or there is none behind the place
 abbrev pub Finds : List TableRow → List Condition → List (Option ℕ) → SearchPlace → Bool → List Elem → Type 0
 Finds table conditions fixed place true images = IsLeast table conditions fixed place images
-Finds table conditions fixed place false images = (others : List Elem) → IsFound table conditions fixed others → IsBehind place others → ⊥
+Finds table conditions fixed place false images = (others : List Elem) → IsFound table conditions fixed others → IsBehindPlace place others → ⊥
 
 -- There are conditions, on so many levels, and each level is that of a term of an atom.
 pub record AreOnLevels (count : ℕ) (conditions : List Condition) : Type 0 where

@@ -30,9 +30,9 @@ impl Model for LevelSearch {
 
     ghost Value = { Search };
 
-    ghost use Rattle.join_ops.specs.Levels.{IsSearch, fixed_on, place_at};
+    ghost use Rattle.join_ops.specs.Levels.{IsSearch, fixed_on, search_place};
 
-    ghost view = { λ m. record { conditions = m.conditions.items; fixed = map fixed_on m.levels.items; place = place_at m.at m.elements.items } };
+    ghost view = { λ m. record { conditions = m.conditions.items; fixed = map fixed_on m.levels.items; place = search_place m.at m.elements.items } };
 
     ghost invariant = { λ m. IsSearch m.conditions.items m.levels.items (length m.elements.items) × (length m.hints.items ≡ length m.elements.items) };
 }

@@ -7,7 +7,7 @@ ghost use Rattle.query_shape.specs.Shape.{IsTermOf};
 ghost use Rattle.query_shape.specs.declared.layout.ShapeAtom.{ShapeAtom as AnyAtom};
 ghost use Rattle.join_ops.specs.declared.condition.Condition.TheVariants.{Atom as OfAtom};
 ghost use Rattle.join_ops.specs.Conditions.{IsLevelOf, IsUnder};
-ghost use Rattle.join_ops.specs.Levels.{AreChecks, AreLevels, AreUnder, Fits, Gives, IsFromFront, IsWellPlaced, IsTwin, LeadsTo, MeetsAll, Offers, fixed_on};
+ghost use Rattle.join_ops.specs.Levels.{AreChecks, AreLevels, AreUnder, Fits, HoldsByOffer, IsFromFront, IsWellPlaced, IsTwin, EdgeLeadsTo, MeetsAll, Offers, fixed_on};
 
 use crate::condition::{Condition, Twins, has_edge};
 use crate::source::{Edge, Source, source_of};
@@ -63,7 +63,7 @@ fn checks(
 /// Whether the condition is tested on this level: it speaks of it and of none above, and what is offered doesn't give it.
 fn is_checked(condition: &Condition, source: Source, level: usize) -> bool
     ensures under { OnTrue result (IsUnder (suc level) condition.now) }
-    ensures given { OnFalse result (IsLevelOf level condition.now → IsUnder (suc level) condition.now → Gives source level condition.now) }
+    ensures given { OnFalse result (IsLevelOf level condition.now → IsUnder (suc level) condition.now → HoldsByOffer source level condition.now) }
 {
     condition.speaks_of(level) && condition.is_up_to(level) && !source.gives(condition, level)
 }
@@ -128,7 +128,7 @@ fn next_along<T: Tables>(
     hint: &mut Hint,
 ) -> Option<Elem>
     requires { edge.from < length front.now }
-    ensures { IsLeastAbove (LeadsTo (T.rows t.now) edge front.now) after result }
+    ensures { IsLeastAbove (EdgeLeadsTo (T.rows t.now) edge front.now) after result }
 {
     t.next_edge_near(edge.role, front[edge.from as usize], after, hint)
 }
@@ -143,7 +143,7 @@ fn twin_along<T: Tables>(
 ) -> Option<Elem>
     requires from { edge.from < length front.now }
     requires parent { twins.parent < length front.now }
-    ensures { IsLeastAbove (λ (e : AnyElem). LeadsTo (T.rows t.now) edge front.now e × (slice_get front.now twins.parent ≡ Some e)) after result }
+    ensures { IsLeastAbove (λ (e : AnyElem). EdgeLeadsTo (T.rows t.now) edge front.now e × (slice_get front.now twins.parent ≡ Some e)) after result }
 {
     let parent = front[twins.parent as usize];
     if has_edge(t, edge.role, front[edge.from as usize], parent) {

@@ -5,7 +5,7 @@ ghost use Rattle.dl_base.specs.declared.element.Elem.{Elem as AnyElem};
 ghost use Rattle.join_plan.specs.Plans.{IsPlanOf};
 ghost use Rattle.join_ops.specs.Joins.{Behind};
 ghost use Rattle.join_ops.specs.Levels.{AreOnLevels};
-ghost use Rattle.join_ops.specs.Matching.{AreMatches, ArePassing, GoesTo, HasLeft, SkipsAgreeing};
+ghost use Rattle.join_ops.specs.Matching.{AreMatches, ArePassing, GoesTo, HasMatchesLeft, SkipsAgreeing};
 ghost use Rattle.join_ops.specs.Orders.{AreLevelsBy, images_of};
 ghost use Rattle.join_ops.specs.Planned.{BeginsBy};
 
@@ -33,11 +33,11 @@ impl Model for Matches {
 
     ghost Value = { PlannedSearch };
 
-    ghost use Rattle.join_ops.specs.Matching.{IsKept};
+    ghost use Rattle.join_ops.specs.Matching.{IsKeptSearch};
 
     ghost view = { λ m. record { levels = m.levels; search = m.search } };
 
-    ghost invariant = { λ m. IsKept m.levels m.search m.images.items };
+    ghost invariant = { λ m. IsKeptSearch m.levels m.search m.images.items };
 }
 
 impl Matches {
@@ -51,7 +51,7 @@ impl Matches {
     ) -> Result<Matches, AllocError>
         requires plan { IsPlanOf s.now p.now }
         requires fixed { length fixed.now ≡ length s.now.terms }
-        ensures left { IfOk result (λ m. (table : List TableRow) → (left : List (List AnyElem)) × HasLeft table m left × AreMatches table s.now fixed.now left) }
+        ensures left { IfOk result (λ m. (table : List TableRow) → (left : List (List AnyElem)) × HasMatchesLeft table m left × AreMatches table s.now fixed.now left) }
         ensures levels { IfOk result (λ m. AreLevelsBy p.now m.levels) }
         ensures count { IfOk result (λ m. length m.levels ≡ length s.now.terms) }
     {
@@ -72,7 +72,7 @@ impl Matches {
         requires plan { IsPlanOf s.now p.now }
         requires fixed { length fixed.now ≡ length s.now.terms }
         requires trees { trees.now.terms ≡ length s.now.terms }
-        ensures left { IfOk result (λ m. (table : List TableRow) → (left : List (List AnyElem)) × HasLeft table m left × ArePassing table s.now trees.now fixed.now left) }
+        ensures left { IfOk result (λ m. (table : List TableRow) → (left : List (List AnyElem)) × HasMatchesLeft table m left × ArePassing table s.now trees.now fixed.now left) }
         ensures levels { IfOk result (λ m. AreLevelsBy p.now m.levels) }
         ensures count { IfOk result (λ m. length m.levels ≡ length s.now.terms) }
     {
@@ -103,7 +103,7 @@ impl Matches {
 
     /// Goes on to the next of the matches that are left in these tables; `false` where there is none. It takes no memory.
     pub fn advance<T: Tables>(&mut self, t: &T) -> bool
-        ensures goes { (left : List (List AnyElem)) → HasLeft (T.rows t.now) self.old left → GoesTo (T.rows t.now) self.old.search.place left result self.new }
+        ensures goes { (left : List (List AnyElem)) → HasMatchesLeft (T.rows t.now) self.old left → GoesTo (T.rows t.now) self.old.search.place left result self.new }
         ensures levels { self.new.levels ≡ self.old.levels }
     {
         let found = self.search.advance(t);
@@ -120,7 +120,7 @@ impl Matches {
     /// Skips those of the matches that are left that agree with the one to which the search has come in all terms of so many
     /// first levels. It takes no memory.
     pub fn skip_agreeing(&mut self, levels: usize)
-        ensures skips { (table : List TableRow) (left : List (List AnyElem)) (last : List AnyElem) → HasLeft table self.old left → self.old.search.place ≡ Behind last
+        ensures skips { (table : List TableRow) (left : List (List AnyElem)) (last : List AnyElem) → HasMatchesLeft table self.old left → self.old.search.place ≡ Behind last
             → SkipsAgreeing table left levels last self.new }
         ensures levels { self.new.levels ≡ self.old.levels }
     {

@@ -1,7 +1,7 @@
 //! The search for the next match, by levels.
 ghost use Rattle.std.specs.Prelude.{◌≡◌, ◌<◌, length, take, map};
 ghost use Rattle.join_ops.specs.Joins.{SearchPlace, Past, IsFound, IsLast};
-ghost use Rattle.join_ops.specs.Levels.{Finds, IsAt, IsSearch, fixed_on, place_at};
+ghost use Rattle.join_ops.specs.Levels.{Finds, IsAtFront, IsSearch, fixed_on, search_place};
 
 use crate::condition::Condition;
 use crate::level::{Level, candidate};
@@ -28,8 +28,8 @@ pub(crate) fn resume<T: Tables>(
 ) -> bool
     requires search { IsSearch conditions.now levels.now (length elements.old) }
     requires hints { length hints.old ≡ length elements.old }
-    ensures { IsLast (T.rows t.now) conditions.now (map fixed_on levels.now) (place_at at elements.old)
-        → Finds (T.rows t.now) conditions.now (map fixed_on levels.now) (place_at at elements.old) result elements.new }
+    ensures { IsLast (T.rows t.now) conditions.now (map fixed_on levels.now) (search_place at elements.old)
+        → Finds (T.rows t.now) conditions.now (map fixed_on levels.now) (search_place at elements.old) result elements.new }
 {
     match at {
         At::Start => search(t, conditions, levels, elements, hints, 0, None),
@@ -80,7 +80,7 @@ fn search<T: Tables>(
     requires search { IsSearch conditions.now levels.now (length elements.old) }
     requires hints { length hints.old ≡ length elements.old }
     requires level { level < length elements.old }
-    ensures { (place : SearchPlace) → IsAt (T.rows t.now) conditions.now (map fixed_on levels.now) place (take level elements.old) after
+    ensures { (place : SearchPlace) → IsAtFront (T.rows t.now) conditions.now (map fixed_on levels.now) place (take level elements.old) after
         → Finds (T.rows t.now) conditions.now (map fixed_on levels.now) place result elements.new }
 {
     let mut level = level;

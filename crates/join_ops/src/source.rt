@@ -5,7 +5,7 @@ ghost use Rattle.query_shape.specs.Shape.{IsTermOf};
 ghost use Rattle.query_shape.specs.declared.layout.ShapeAtom.{ShapeAtom as AnyAtom};
 ghost use Rattle.join_ops.specs.declared.condition.Condition.TheVariants.{Atom as OfAtom};
 ghost use Rattle.join_ops.specs.declared.source.Source.TheVariants as sources;
-ghost use Rattle.join_ops.specs.Levels.{Gives, IsAlong, IsEdgeOf, IsSource, IsTwinAt, IsTwinBy, Serves, fixed_of};
+ghost use Rattle.join_ops.specs.Levels.{HoldsByOffer, IsAlong, IsEdgeOf, IsSource, IsTwinAt, IsTwinBy, Serves, fixed_of};
 
 use crate::condition::{Condition, Twins};
 use dl_base::Role;
@@ -36,7 +36,7 @@ pub(crate) struct Edge {
 impl Source {
     /// Whether the condition holds with whatever is offered for the term of this level.
     pub(crate) fn gives(self, condition: &Condition, level: usize) -> bool
-        ensures { OnTrue result (Gives self level condition.now) }
+        ensures { OnTrue result (HoldsByOffer self level condition.now) }
     {
         match *condition {
             Condition::Atom(atom) => self.gives_atom(atom, level),
@@ -46,7 +46,7 @@ impl Source {
 
     /// Whether the atom holds with whatever is offered for the term of this level.
     fn gives_atom(self, atom: ShapeAtom, level: usize) -> bool
-        ensures { OnTrue result (Gives self level (OfAtom atom)) }
+        ensures { OnTrue result (HoldsByOffer self level (OfAtom atom)) }
     {
         match atom {
             ShapeAtom::Concept { concept, term } => {

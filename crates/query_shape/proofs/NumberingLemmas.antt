@@ -225,9 +225,9 @@ layout_of o q s is h =
     used k below (Some t) at = found k t at
     used k below None at = absurd (omega (arith, none_past s.terms k at))
 
--- ---- names that the ontology lacks
+-- ---- names that the ontology has
 
-pub known_of : (o : Terminology) (ts : List Term) (a : Atom) (s : ShapeAtom) → NumbersAtom o ts a s → IsKnown o a
+known_of : (o : Terminology) (ts : List Term) (a : Atom) (s : ShapeAtom) → NumbersAtom o ts a s → IsKnown o a
 known_of o ts (atom.Concept name u) (shape.Concept c n) h = member_at o.concepts c name h.0
 known_of o ts (atom.Role name u v) (shape.Role r n m) h = member_at o.roles r.name name h.0
 known_of o ts (atom.Concept name u) (shape.Role r n m) h = absurd h
@@ -238,6 +238,12 @@ all_known o ts [] [] all = All-nil (IsKnown o)
 all_known o ts [] (s ∷ ss) all = absurd all
 all_known o ts (a ∷ as') [] all = absurd all
 all_known o ts (a ∷ as') (s ∷ ss) all = All-cons (IsKnown o) a as' (known_of o ts a s all.0) (all_known o ts as' ss all.1)
+
+-- the ontology knows the names of a query that has a shape in it
+pub shape_known : (o : Terminology) (q : Question) (s : Layout) → IsShapeOf o q s → All (IsKnown o) q.atoms
+shape_known o q s is = all_known o s.terms q.atoms s.atoms is.atoms_are
+
+-- ---- names that the ontology lacks
 
 -- the fault of an atom behind atoms that are numbered
 pub first_fault : (o : Terminology) (q : Question) (k : ℕ) (a : Atom) (ts : List Term) (ss : List ShapeAtom) (e : ShapeError) → k < length q.atoms → a ≡ get_or q.atoms k a

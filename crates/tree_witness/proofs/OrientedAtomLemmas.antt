@@ -9,20 +9,20 @@ use Rattle.query_shape.specs.Shape.{IsBelow}
 use Rattle.query_shape.specs.declared.layout.ShapeAtom.{ShapeAtom}
 use Rattle.query_shape.specs.declared.layout.ShapeAtom.TheVariants as shape
 use Rattle.query_shape.specs.TreeWitness.{IsOriented}
-use Rattle.tree_witness.specs.Trees.{both_ways, oriented_atoms, IsOrientedBelow}
+use Rattle.tree_witness.specs.Trees.{read_both_ways, oriented_atoms, IsOrientedBelow}
 use Rattle.tree_witness.specs.declared.oriented.OrientedAtom.{OrientedAtom}
 
 abbrev read_as : Role → ℕ → ℕ → OrientedAtom
 read_as r s u = record { role = r; from = s; to = u }
 
 pub oriented_there : (atoms : List ShapeAtom) (r : Role) (s u : ℕ) → IsOriented atoms r s u → Contains (oriented_atoms atoms) (record { role = r; from = s; to = u })
-oriented_there atoms r s u (inl there) = flat_there both_ways atoms (shape.Role r s u) (read_as r s u) there (contains_first (read_as r s u) (read_as (inverse r) u s ∷ []))
+oriented_there atoms r s u (inl there) = flat_there read_both_ways atoms (shape.Role r s u) (read_as r s u) there (contains_first (read_as r s u) (read_as (inverse r) u s ∷ []))
 oriented_there atoms r s u (inr (q, is, there)) =
     subst (λ (p : Role). Contains (oriented_atoms atoms) (read_as p s u)) (sym is)
-    (flat_there both_ways atoms (shape.Role q u s) (read_as (inverse q) s u) there
+    (flat_there read_both_ways atoms (shape.Role q u s) (read_as (inverse q) s u) there
     (contains_later (read_as q u s) (read_as (inverse q) s u ∷ []) (read_as (inverse q) s u) (contains_first (read_as (inverse q) s u) [])))
 
-one_way : (atoms : List ShapeAtom) (a : ShapeAtom) (x : OrientedAtom) → Contains atoms a → Contains (both_ways a) x → IsOriented atoms x.role x.from x.to
+one_way : (atoms : List ShapeAtom) (a : ShapeAtom) (x : OrientedAtom) → Contains atoms a → Contains (read_both_ways a) x → IsOriented atoms x.role x.from x.to
 one_way atoms (shape.Concept c n) x there one = absurd (omega (arith, one.1))
 one_way atoms (shape.Role r n m) x there one = by (contains_cases (read_as r n m) (read_as (inverse r) m n ∷ []) x one)
   where
@@ -35,7 +35,7 @@ one_way atoms (shape.Role r n m) x there one = by (contains_cases (read_as r n m
     by (inr c) = later (contains_cases (read_as (inverse r) m n) [] x c)
 
 pub oriented_from : (atoms : List ShapeAtom) (x : OrientedAtom) → Contains (oriented_atoms atoms) x → IsOriented atoms x.role x.from x.to
-oriented_from atoms x c = let part = flat_part both_ways atoms x c in one_way atoms part.0 x part.1 part.2
+oriented_from atoms x c = let part = flat_part read_both_ways atoms x c in one_way atoms part.0 x part.1 part.2
 
 -- their terms are those of the atoms
 pub ends_below : (count : ℕ) (atoms : List ShapeAtom) → All (IsBelow count) atoms → All (IsOrientedBelow count) (oriented_atoms atoms)

@@ -15,12 +15,12 @@ use Rattle.tree_witness.specs.declared.trees.TreeEntry.{TreeEntry}
 -- ---- oriented atoms
 
 -- a role atom as it stands, and the other way
-abbrev pub both_ways : ShapeAtom → List OrientedAtom
-both_ways (shape.Concept c n) = []
-both_ways (shape.Role r n m) = record { role = r; from = n; to = m } ∷ record { role = inverse r; from = m; to = n } ∷ []
+abbrev pub read_both_ways : ShapeAtom → List OrientedAtom
+read_both_ways (shape.Concept c n) = []
+read_both_ways (shape.Role r n m) = record { role = r; from = n; to = m } ∷ record { role = inverse r; from = m; to = n } ∷ []
 
 abbrev pub oriented_atoms : List ShapeAtom → List OrientedAtom
-oriented_atoms atoms = flat_map both_ways atoms
+oriented_atoms atoms = flat_map read_both_ways atoms
 
 -- the atom's terms are below this number
 abbrev pub IsOrientedBelow : ℕ → OrientedAtom → Type 0

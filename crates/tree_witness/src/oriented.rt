@@ -1,6 +1,6 @@
 //! Role atoms, each read both ways.
 ghost use Rattle.std.specs.Prelude.{◌≡◌, ◌++◌, IfOk, OnOk};
-ghost use Rattle.tree_witness.specs.Trees.{both_ways, oriented_atoms};
+ghost use Rattle.tree_witness.specs.Trees.{read_both_ways, oriented_atoms};
 
 use dl_base::{Items, Role};
 use query_shape::ShapeAtom;
@@ -33,7 +33,7 @@ pub(crate) fn oriented_atoms(
 
 /// Adds the atom, if it is a role atom, read both ways.
 fn add_both_ways(oriented: &mut Vec<OrientedAtom>, atom: ShapeAtom) -> Result<(), AllocError>
-    ensures { OnOk result (oriented.new.items ≡ oriented.old.items ++ both_ways atom) }
+    ensures { OnOk result (oriented.new.items ≡ oriented.old.items ++ read_both_ways atom) }
 {
     if let ShapeAtom::Role { role, from, to } = atom {
         oriented.push(OrientedAtom { role, from, to })?;

@@ -4,7 +4,7 @@ use Rattle.dl_base.specs.declared.element.Elem.{Elem}
 use Rattle.query_shape.specs.Shape.{Layout}
 use Rattle.join_plan.specs.declared.steps.Step.{Step}
 use Rattle.tree_witness.specs.Trees.{Trees}
-use Rattle.join_ops.specs.Matching.{ArePassing, HasLeft, IsNextOf, SkipsAgreeing}
+use Rattle.join_ops.specs.Matching.{ArePassing, HasMatchesLeft, WentToFirst, SkipsAgreeing}
 use Rattle.join_ops.specs.Orders.{images_of}
 use Rattle.answer_core.specs.Binding.{BoundQuery, IsPlanned}
 use Rattle.answer_core.specs.Found.{AddsLifted, HasKeyOf}
@@ -34,17 +34,17 @@ matches-init g c =
       count = c.in_ok-matches.ensures.count ∙ ap (λ (b : BoundQuery). length b.shape.terms) c.b.view_is;
       first = rw (c.levels.ensures, places) at c.levels_up_to-levels.ensures;
       so_far = found_none (g.T.Tables.rows c.args.t.now) c.args.b.now c.args.fixed.now c.args.count c.b.inside.trees c.in_ok-matches.matches c.new-found.result is.bound.layout is.trees_are c.new-found.ensures
-          (subst (λ (b : BoundQuery). (left : List (List Elem)) × HasLeft (g.T.Tables.rows c.args.t.now) c.in_ok-matches.matches left × ArePassing (g.T.Tables.rows c.args.t.now) b.shape c.b.inside.trees c.args.fixed.now left) c.b.view_is (c.in_ok-matches.ensures.left (g.T.Tables.rows c.args.t.now)));
+          (subst (λ (b : BoundQuery). (left : List (List Elem)) × HasMatchesLeft (g.T.Tables.rows c.args.t.now) c.in_ok-matches.matches left × ArePassing (g.T.Tables.rows c.args.t.now) b.shape c.b.inside.trees c.args.fixed.now left) c.b.view_is (c.in_ok-matches.ensures.left (g.T.Tables.rows c.args.t.now)));
     }
 
 pub add_key-requires-clause-places : goal.add_key-requires-clause-places
 add_key-requires-clause-places g c =
-    let next : IsNextOf (g.T.Tables.rows c.args.t.now) c.matches.matches.search.place c.matches.invariant.so_far.left c.advance.new.self = c.matches-test.ensures.goes c.matches.invariant.so_far.left c.matches.invariant.so_far.goes_on in
+    let next : WentToFirst (g.T.Tables.rows c.args.t.now) c.matches.matches.search.place c.matches.invariant.so_far.left c.advance.new.self = c.matches-test.ensures.goes c.matches.invariant.so_far.left c.matches.invariant.so_far.goes_on in
     rw (c.matches.invariant.places, c.images.ensures next.elements next.stands) (next_places (g.T.Tables.rows c.args.t.now) c.args.b.now c.args.fixed.now c.args.count c.matches.matches c.matches.found c.matches.invariant.so_far c.advance.new.self next (whole c.b.inside.shape c.b.inside.answers c.b.inside.plan c.b.inside.trees c.args.b.now c.b.view_is c.b.invariant).bound.within)
 
 pub add_key-requires-clause-images : goal.add_key-requires-clause-images
 add_key-requires-clause-images g c =
-    let next : IsNextOf (g.T.Tables.rows c.args.t.now) c.matches.matches.search.place c.matches.invariant.so_far.left c.advance.new.self = c.matches-test.ensures.goes c.matches.invariant.so_far.left c.matches.invariant.so_far.goes_on in
+    let next : WentToFirst (g.T.Tables.rows c.args.t.now) c.matches.matches.search.place c.matches.invariant.so_far.left c.advance.new.self = c.matches-test.ensures.goes c.matches.invariant.so_far.left c.matches.invariant.so_far.goes_on in
     let is = (whole c.b.inside.shape c.b.inside.answers c.b.inside.plan c.b.inside.trees c.args.b.now c.b.view_is c.b.invariant) in
     rw (c.images.ensures next.elements next.stands) ((next_match (g.T.Tables.rows c.args.t.now) c.args.b.now c.args.fixed.now c.args.count c.matches.matches c.matches.found c.matches.invariant.so_far c.advance.new.self next).count ∙ sym is.trees_are.terms)
 
@@ -53,18 +53,18 @@ add_key-requires-clause-room g c = c.as_mut_slice.ensures.len ∙ c.matches.inva
 
 pub matches-smaller-then-settled : goal.matches-smaller-then-settled
 matches-smaller-then-settled g c =
-    let next : IsNextOf (g.T.Tables.rows c.args.t.now) c.matches.matches.search.place c.matches.invariant.so_far.left c.advance.new.self = c.matches-test.ensures.goes c.matches.invariant.so_far.left c.matches.invariant.so_far.goes_on in
+    let next : WentToFirst (g.T.Tables.rows c.args.t.now) c.matches.matches.search.place c.matches.invariant.so_far.left c.advance.new.self = c.matches-test.ensures.goes c.matches.invariant.so_far.left c.matches.invariant.so_far.goes_on in
     let skips : SkipsAgreeing (g.T.Tables.rows c.args.t.now) next.others c.levels_up_to-levels.result next.elements c.skip_agreeing.new.self = c.skip_agreeing.ensures.skips (g.T.Tables.rows c.args.t.now) next.others next.elements next.goes_on next.stands in
     skip_falls (g.T.Tables.rows c.args.t.now) c.args.b.now c.args.fixed.now c.args.count c.matches.matches c.matches.found c.matches.invariant.so_far c.advance.new.self next c.levels_up_to-levels.result c.skip_agreeing.new.self (whole c.b.inside.shape c.b.inside.answers c.b.inside.plan c.b.inside.trees c.args.b.now c.b.view_is c.b.invariant).bound.layout skips.stands
 
 pub matches-smaller : goal.matches-smaller
 matches-smaller g c =
-    let next : IsNextOf (g.T.Tables.rows c.args.t.now) c.matches.matches.search.place c.matches.invariant.so_far.left c.advance.new.self = c.matches-test.ensures.goes c.matches.invariant.so_far.left c.matches.invariant.so_far.goes_on in
+    let next : WentToFirst (g.T.Tables.rows c.args.t.now) c.matches.matches.search.place c.matches.invariant.so_far.left c.advance.new.self = c.matches-test.ensures.goes c.matches.invariant.so_far.left c.matches.invariant.so_far.goes_on in
     next_falls (g.T.Tables.rows c.args.t.now) c.args.b.now c.args.fixed.now c.args.count c.matches.matches c.matches.found c.matches.invariant.so_far c.advance.new.self next (whole c.b.inside.shape c.b.inside.answers c.b.inside.plan c.b.inside.trees c.args.b.now c.b.view_is c.b.invariant).bound.layout
 
 pub matches-preserved-then-settled : goal.matches-preserved-then-settled
 matches-preserved-then-settled g c =
-    let next : IsNextOf (g.T.Tables.rows c.args.t.now) c.matches.matches.search.place c.matches.invariant.so_far.left c.advance.new.self = c.matches-test.ensures.goes c.matches.invariant.so_far.left c.matches.invariant.so_far.goes_on in
+    let next : WentToFirst (g.T.Tables.rows c.args.t.now) c.matches.matches.search.place c.matches.invariant.so_far.left c.advance.new.self = c.matches-test.ensures.goes c.matches.invariant.so_far.left c.matches.invariant.so_far.goes_on in
     let skips : SkipsAgreeing (g.T.Tables.rows c.args.t.now) next.others c.levels_up_to-levels.result next.elements c.skip_agreeing.new.self = c.skip_agreeing.ensures.skips (g.T.Tables.rows c.args.t.now) next.others next.elements next.goes_on next.stands in
     let went : c.advance.new.self.levels ≡ c.matches.matches.levels = c.matches-test.ensures.levels in
     let stays : c.skip_agreeing.new.self.levels ≡ c.advance.new.self.levels = c.skip_agreeing.ensures.levels in
@@ -86,7 +86,7 @@ matches-preserved-then-settled g c =
 
 pub matches-preserved : goal.matches-preserved
 matches-preserved g c =
-    let next : IsNextOf (g.T.Tables.rows c.args.t.now) c.matches.matches.search.place c.matches.invariant.so_far.left c.advance.new.self = c.matches-test.ensures.goes c.matches.invariant.so_far.left c.matches.invariant.so_far.goes_on in
+    let next : WentToFirst (g.T.Tables.rows c.args.t.now) c.matches.matches.search.place c.matches.invariant.so_far.left c.advance.new.self = c.matches-test.ensures.goes c.matches.invariant.so_far.left c.matches.invariant.so_far.goes_on in
     let went : c.advance.new.self.levels ≡ c.matches.matches.levels = c.matches-test.ensures.levels in
     let is = (whole c.b.inside.shape c.b.inside.answers c.b.inside.plan c.b.inside.trees c.args.b.now c.b.view_is c.b.invariant) in
     let lifted : AddsLifted c.args.b.now.shape (images_of c.advance.new.self.levels next.elements) c.args.b.now.answers c.args.count c.matches.found c.add_key.new.found =

@@ -5,7 +5,7 @@ use Rattle.std.proofs.lemmas.List.{take_all}
 use Rattle.std.proofs.lemmas.List.Filters.{dedup_is}
 use Rattle.std.proofs.lemmas.List.Kept.{Contains-dedup_nat, Contains-from_dedup, IsStrictlySortedBy-dedup}
 use Rattle.std.proofs.lemmas.List.Sorted.{Contains-permutation, IsPermutation-sym}
-use Rattle.answer_core.specs.Ranks.{IsInRow, rows_of}
+use Rattle.answer_core.specs.Ranks.{IsInRow, items_of}
 use Rattle.answer_core.proofs.ListLemmas.{in_rows_more}
 use Rattle.answer_core.proofs.rows.numbers_in.Goals as goal
 
@@ -26,8 +26,8 @@ returns-clause-each c =
     λ n. (
       λ there.
           let sorted = Contains-from_dedup _ _ n (rw is at there) in
-          subst (λ (keys : List (Vec ℕ Global)). IsInRow (rows_of keys) n) whole ((c.loop-key.invariant n).0 (Contains-permutation _ _ n (IsPermutation-sym _ _ moved) sorted)),
+          subst (λ (keys : List (Vec ℕ Global)). IsInRow (items_of keys) n) whole ((c.loop-key.invariant n).0 (Contains-permutation _ _ n (IsPermutation-sym _ _ moved) sorted)),
       λ row.
-          let old = (c.loop-key.invariant n).1 (subst (λ (keys : List (Vec ℕ Global)). IsInRow (rows_of keys) n) (sym whole) row) in
+          let old = (c.loop-key.invariant n).1 (subst (λ (keys : List (Vec ℕ Global)). IsInRow (items_of keys) n) (sym whole) row) in
           rw is (Contains-dedup_nat _ n (Contains-permutation _ _ n moved old)),
     )

@@ -1,7 +1,7 @@
 use Rattle.std.proofs.Common.{take}
-use Rattle.answer_core.specs.Found.{Spells}
+use Rattle.answer_core.specs.Found.{SpellsKey}
 use Rattle.answer_core.specs.Ranks.{names_by_rank}
 use Rattle.answer_core.proofs.rows.spelled_row.Given as goal
 
 abbrev pub invariant-loop-rank : goal.invariant-loop-rank
-invariant-loop-rank l = Spells (names_by_rank l.order) (take l.rank-index l.row) l.key.items
+invariant-loop-rank l = SpellsKey (names_by_rank l.order) (take l.rank-index l.row) l.key.items
