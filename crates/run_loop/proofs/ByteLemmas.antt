@@ -1,9 +1,7 @@
 -- The bytes of a script that come in pieces.
-use Rattle.std.proofs.Common.{◌≡◌, ◌≤◌, ◌<◌, ◌-◌, ◌^◌, ◌==◌, ℕ, List, [], ◌∷◌, ◌++◌, length, take, drop, map, Option, None, Bool, true, false, refl, sym, ◌∙◌, ap, subst, arith, append_assoc, length-append, take-append-drop, inl, inr}
+use Rattle.std.proofs.Common.{◌≡◌, ◌≤◌, ◌<◌, ◌-◌, ◌^◌, ℕ, List, [], ◌∷◌, ◌++◌, length, take, drop, map, Option, None, Bool, true, false, refl, sym, ◌∙◌, ap, subst, arith, append_assoc, length-append, take-append-drop, inl, inr}
 use Rattle.std.specs.List.{flat_map}
-use Rattle.std.proofs.lemmas.List.{append-nil, map-append, length-map, length-take, length-drop, take_all}
-use Rattle.std.proofs.lemmas.Bool.{eqb-true}
-use Rattle.std.proofs.lemmas.Grind.{flat_map-append}
+use Rattle.std.proofs.lemmas.List.{append-nil, map-append, length-map, length-take, take_all}
 use Rattle.host_io.specs.Disk.{Disk}
 use Rattle.host_io.specs.Moments.{Left}
 use Rattle.axiom_reader.specs.Block.{Progress}
@@ -13,46 +11,18 @@ use Rattle.script_reader.specs.Requests.{Token, Is, Finished, Begun, HoldsReques
 use Rattle.script_reader.specs.declared.lines.Fed.{Fed}
 use Rattle.script_reader.specs.declared.lines.Fed.TheVariants as fed
 use Rattle.script_reader.specs.declared.request.Request.{Request}
-use Rattle.script_reader.proofs.LineLemmas.{kept_more}
+use Rattle.script_reader.proofs.LineLemmas.{cut_ends, cut_goes_on, kept_more}
 use Rattle.script_reader.proofs.FeedingLemmas.{kept_gives_line}
 use Rattle.base_engine.specs.State.{MachineState}
 use Rattle.run_loop.specs.Serving.{Opening}
 use Rattle.run_loop.specs.Taking.{StandFirst, IsTold, Takes, TakesAll, EndedIn, EndedWith, TakesBytes, TakesAllOf, EndedAt, lines_of}
 use Rattle.run_loop.specs.declared.fault.Fault.{Fault}
-use Rattle.run_loop.proofs.ScriptLemmas.{all_push, holds_end}
+use Rattle.run_loop.proofs.ScriptLemmas.{holds_end}
 
 abbrev pub tokens_of : List (List ℕ) → List Token
 tokens_of pieces = map (λ piece. Is (given piece)) pieces
 
 -- ---- how bytes are cut
-
-both_no_end : (a b : List ℕ) → HasNoEnd a → HasNoEnd b → HasNoEnd (a ++ b)
-both_no_end [] b x y = y
-both_no_end (c ∷ a) b x y = (x.0, both_no_end a b x.1 y)
-
-cut_goes_on : (bytes input rest : List ℕ) (pieces : List (List ℕ)) → IsCut bytes pieces rest → HasNoEnd input → IsCut (bytes ++ input) pieces (rest ++ input)
-cut_goes_on bytes input rest pieces c none = record {
-  joined = ap (λ (l : List ℕ). l ++ input) c.joined ∙ append_assoc (flat_map (λ piece. piece ++ 10 ∷ []) pieces) rest input;
-  none_inside = c.none_inside;
-  none_behind = both_no_end rest input c.none_behind none;
-}
-
-cut_ends : (bytes text rest : List ℕ) (pieces : List (List ℕ)) → IsCut bytes pieces rest → HasNoEnd text → IsCut (bytes ++ (text ++ 10 ∷ [])) (pieces ++ (rest ++ text) ∷ []) []
-cut_ends bytes text rest pieces c none =
-    let f : List ℕ → List ℕ = λ piece. piece ++ 10 ∷ [] in
-    let front = flat_map f pieces in
-    let piece = rest ++ text in
-    record {
-      joined =
-          ap (λ (l : List ℕ). l ++ (text ++ 10 ∷ [])) c.joined
-          ∙ append_assoc front rest (text ++ 10 ∷ [])
-          ∙ ap (λ (l : List ℕ). front ++ l) (sym (append_assoc rest text (10 ∷ [])))
-          ∙ ap (λ (l : List ℕ). front ++ l) (sym (append-nil (piece ++ 10 ∷ [])))
-          ∙ sym (flat_map-append f pieces (piece ∷ []))
-          ∙ sym (append-nil (flat_map f (pieces ++ piece ∷ [])));
-      none_inside = all_push HasNoEnd pieces piece c.none_inside (both_no_end rest text c.none_behind none);
-      none_behind = tt;
-    }
 
 few_pieces : (pieces : List (List ℕ)) → length pieces ≤ length (flat_map (λ piece. piece ++ 10 ∷ []) pieces)
 few_pieces [] = omega arith
@@ -236,15 +206,3 @@ module _ {H : Type 0} (disk : H → Option Disk) (printed : H → Option (List �
   -- more bytes behind those at which the run ended
   pub ended_before : (a : Opening) (bytes more : List ℕ) (x : Fault) (host : H) → EndedAt disk printed clock might start a bytes false x host → EndedAt disk printed clock might start a (bytes ++ more) false x host
   ended_before a bytes more x host e = record { requests = e.requests; first = first_longer bytes more false e.requests e.first; within = e.within }
-
--- ---- pieces
-
-pub split_more : (piece front rest : List ℕ) (count : ℕ) → piece ≡ front ++ rest → piece ≡ (front ++ take count rest) ++ take (length rest - count) (drop count rest)
-split_more piece front rest count is =
-    let more : take (length rest - count) (drop count rest) ≡ drop count rest = take_all (length rest - count) (drop count rest) (omega (arith, length-drop count rest)) in
-    is ∙ ap (λ (l : List ℕ). front ++ l) (sym (ap (λ (l : List ℕ). take count rest ++ l) more ∙ take-append-drop count rest))
-    ∙ sym (append_assoc front (take count rest) (take (length rest - count) (drop count rest)))
-
-pub nothing_left : (piece front rest : List ℕ) → piece ≡ front ++ rest → (length rest == 0) ≡ true → front ≡ piece
-nothing_left piece front [] is empty = sym (is ∙ append-nil front)
-nothing_left piece front (b ∷ rest) is empty = absurd (omega (arith, eqb-true (length (b ∷ rest)) 0 empty))

@@ -1,6 +1,6 @@
 -- A run so far, and how it ends.
-use Rattle.std.proofs.Common.{◌≡◌, ⊎_elim, ◌≤◌, ◌+◌, ℕ, List, [], ◌++◌, length, take, drop, Option, Some, None, Bool, true, false, refl, sym, ◌∙◌, ap, subst, arith, append_assoc, length-append}
-use Rattle.std.proofs.lemmas.List.{append-nil, take_at, length-take, length-drop}
+use Rattle.std.proofs.Common.{◌≡◌, ⊎_elim, ◌≤◌, ◌+◌, ℕ, List, [], ◌++◌, length, take, Option, Some, None, Bool, true, false, refl, sym, ◌∙◌, ap, subst, arith, append_assoc, length-append}
+use Rattle.std.proofs.lemmas.List.{append-nil, take_at}
 use Rattle.host_io.specs.Disk.{Disk}
 use Rattle.host_io.specs.Moments.{Left, LeavesOnly}
 use Rattle.host_io.specs.Source.{Takes as TakesFront, AtEnd}
@@ -170,16 +170,3 @@ module _ {H : Type 0} (disk : H → Option Disk) (printed : H → Option (List �
             count = omega (arith, length-append t.read piece, t.count);
             bytes = bytes;
           }
-
--- ---- numbers
-
--- a read takes no more than it has room for
-pub within_room : (n m : ℕ) (buffer whole : List ℕ) → n ≤ length buffer → length buffer ≡ length (take m whole) → n ≤ m
-within_room n m buffer whole le same = omega (arith, le, same, length-take m whole)
-
-pub length-piece : (n : ℕ) (buffer : List ℕ) → n ≤ length buffer → length (take n buffer) ≡ n
-length-piece n buffer le = omega (arith, length-take n buffer)
-
--- a buffer keeps its length where its front is read into
-pub length-filled : (room : ℕ) (front whole : List ℕ) → length front ≡ length (take room whole) → room ≤ length whole → length (front ++ drop room whole) ≡ length whole
-length-filled room front whole same le = omega (arith, same, le, length-append front (drop room whole), length-drop room whole, length-take room whole)

@@ -1,7 +1,7 @@
 -- What stands in a script that goes on.
 use Rattle.std.proofs.Common.{◌≡◌, ◌≤◌, ◌<◌, ◌^◌, ℕ, List, [], ◌∷◌, ◌++◌, length, Option, Some, None, Bool, true, false, Result, refl, sym, ◌∙◌, ap, subst, arith, append_assoc, length-append, inl}
 use Rattle.std.specs.Prelude.{IsTrue}
-use Rattle.std.specs.List.{flat_map, AllByRecursion}
+use Rattle.std.specs.List.{flat_map}
 use Rattle.std.proofs.lemmas.List.{append-nil, map-append, length-map}
 use Rattle.std.proofs.lemmas.Grind.{flat_map-append}
 use Rattle.host_io.specs.Disk.{Disk}
@@ -12,6 +12,7 @@ use Rattle.axiom_reader.specs.declared.block.BlockError.{BlockError}
 use Rattle.script_reader.specs.Requests.{Token, Is, Finished, Part, Skipped, Single, Block, End, spelled, asked, IsPart, ClosesBlock, EndsBlock, OpensBlock, Asks, SaysNothing, Begun, begun_lines, HoldsRequests}
 use Rattle.script_reader.specs.declared.request.Request.{Request}
 use Rattle.script_reader.specs.declared.request.Request.TheVariants as request
+use Rattle.script_reader.proofs.ListLemmas.{all_push}
 use Rattle.base_engine.specs.State.{MachineState}
 use Rattle.run_loop.specs.Serving.{Opening, Serves, Ended}
 use Rattle.run_loop.specs.Taking.{KeepsBlock, Takes, TakesAll, EndedIn, EndedWith}
@@ -19,10 +20,6 @@ use Rattle.run_loop.specs.declared.fault.Fault.{Fault}
 use Rattle.run_loop.specs.declared.fault.Fault.TheVariants as fault
 
 -- ---- parts
-
-pub all_push : {X : Type 0} (P : X → Type 0) (xs : List X) (x : X) → AllByRecursion P xs → P x → AllByRecursion P (xs ++ x ∷ [])
-all_push P [] x all p = (p, tt)
-all_push P (y ∷ ys) x all p = (all.0, all_push P ys x all.1 p)
 
 part_more : (parts : List Part) (p : Part) → flat_map spelled (parts ++ p ∷ []) ≡ flat_map spelled parts ++ spelled p
 part_more parts p = flat_map-append spelled parts (p ∷ []) ∙ ap (λ (l : List Token). flat_map spelled parts ++ l) (append-nil (spelled p))

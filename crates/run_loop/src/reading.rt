@@ -14,33 +14,9 @@ use axiom_reader::Block;
 use base_engine::Engine;
 use horn_closure::Steps;
 use host_io::{Host, Source};
-use script_reader::Lines;
+use script_reader::{Lines, MAX_INPUT, room_after};
 use std::alloc::Global;
 use std::sync::ledger::Ledger;
-
-/// The most bytes of an input.
-const MAX_INPUT: u64 = 67_108_864;
-
-/// How many bytes a read may take at once.
-pub const BUFFER: usize = 65_536;
-
-/// How much the next read may take: as much as goes into the buffer and up to the limit, and then one byte.
-fn room_after(taken: u64) -> usize
-    requires { taken ≤ 67108864 }
-    ensures some { 0 < result }
-    ensures buffer { result ≤ 65536 }
-    ensures limit { taken < 67108864 → taken + result ≤ 67108864 }
-    ensures one { taken ≡ 67108864 → result ≡ 1 }
-{
-    let left = MAX_INPUT - taken;
-    if left == 0 {
-        1
-    } else if left < BUFFER as u64 {
-        left as usize
-    } else {
-        BUFFER
-    }
-}
 
 /// Reads the script to its end, piece by piece, and answers its requests.
 pub fn read_script<E: Engine, S: Source, H: Host, L: Ledger>(

@@ -11,11 +11,11 @@ ghost use Rattle.run_loop.specs.Serving.{Opening, Serves};
 
 use crate::ending::Ending;
 use crate::fault::fault_of;
-use crate::reading::{BUFFER, read_script};
+use crate::reading::read_script;
 use base_engine::Engine;
 use horn_closure::Steps;
 use host_io::{Host, Source};
-use script_reader::Lines;
+use script_reader::{Lines, READ_BUFFER};
 use std::alloc::{AllocError, Global};
 use std::sync::ledger::Ledger;
 
@@ -97,7 +97,7 @@ pub(crate) fn run_loaded<E: Engine, S: Source, H: Host, L: Ledger>(
     let Ok(lines) = Lines::new(alloc) else {
         return Ending::NoMemory;
     };
-    let Ok(mut buffer) = vec![in alloc; 0u8; BUFFER] else {
+    let Ok(mut buffer) = vec![in alloc; 0u8; READ_BUFFER] else {
         return Ending::NoMemory;
     };
     read_script(

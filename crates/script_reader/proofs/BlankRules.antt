@@ -1,5 +1,5 @@
 -- Blanks around a text, and between its parts.
-use Rattle.std.proofs.Common.{◌≡◌, ℕ, zero, suc, ◌-◌, ◌<◌, ◌≤◌, ◌⊎◌, inl, inr, Bool, true, false, List, [], ◌∷◌, ◌++◌, length, take, drop, get_or, arith, refl, sym, ◌∙◌, ap, subst, append_assoc, true≢false}
+use Rattle.std.proofs.Common.{◌≡◌, ℕ, zero, suc, ◌-◌, ◌<◌, ◌≤◌, ◌⊎◌, inl, inr, Bool, true, false, List, [], ◌∷◌, ◌++◌, length, take, drop, arith, refl, sym, ◌∙◌, ap, subst, append_assoc, true≢false}
 use Rattle.std.specs.Prelude.{IsTrue}
 use Rattle.std.specs.List.{AllByRecursion}
 use Rattle.std.proofs.lemmas.List.{append-nil, take-append-drop, length-drop}
@@ -7,19 +7,10 @@ use Rattle.std.proofs.Math.Seq.{take-length}
 use Rattle.grammar.specs.Bytes.{is_blank, is_kind}
 use Rattle.grammar.specs.declared.bytes.Kind.TheVariants as kind
 use Rattle.grammar.specs.Reading.{next_is}
+use Rattle.script_reader.proofs.ListLemmas.{all_joined, same_head, same_tail}
 use Rattle.script_reader.specs.DocLines.{AreBlank, BeginsUnblank, EndsUnblank, IsWithoutBlanksBehind, IsTrimmed}
 
 -- ---- lists
-
-pub same_head : {A : Type 0} (x y : A) (xs ys : List A) → x ∷ xs ≡ y ∷ ys → x ≡ y
-same_head x y xs ys same = ap (λ l. get_or l 0 x) same
-
-abbrev behind_first : {A : Type 0} → List A → List A
-behind_first [] = []
-behind_first (x ∷ xs) = xs
-
-pub same_tail : {A : Type 0} (x y : A) (xs ys : List A) → x ∷ xs ≡ y ∷ ys → xs ≡ ys
-same_tail x y xs ys same = ap (λ l. behind_first l) same
 
 -- one of two fronts goes on to the other
 record GoesOn {X : Type 0} (front more other_front other_more : List X) : Type 0 where
@@ -57,10 +48,6 @@ all_in_front P (x ∷ xs) ys all = (all.0, all_in_front P xs ys all.1)
 all_behind : {X : Type 0} (P : X → Type 0) (xs ys : List X) → AllByRecursion P (xs ++ ys) → AllByRecursion P ys
 all_behind P [] ys all = all
 all_behind P (x ∷ xs) ys all = all_behind P xs ys all.1
-
-pub all_joined : {X : Type 0} (P : X → Type 0) (xs ys : List X) → AllByRecursion P xs → AllByRecursion P ys → AllByRecursion P (xs ++ ys)
-all_joined P [] ys front behind = behind
-all_joined P (x ∷ xs) ys front behind = (front.0, all_joined P xs ys front.1 behind)
 
 abbrev Blank : ℕ → Type 0
 Blank c = IsTrue (is_blank c)

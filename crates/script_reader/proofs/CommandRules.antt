@@ -42,14 +42,14 @@ abbrev third : List ℕ → List ℕ → Grammar NamedRow
 third first second = name >>= λ n. blanks >> means (row.Role first second n)
 
 -- what stands behind two names
-abbrev behind_two : List ℕ → List ℕ → Grammar NamedRow
-behind_two first second = blanks >>= λ b. means (row.Concept first second) ∣ given (Unit {0} × (1 ≤ length b)) (third first second)
+abbrev behind_two_and_blanks : List ℕ → List ℕ → Grammar NamedRow
+behind_two_and_blanks first second = blanks >>= λ b. means (row.Concept first second) ∣ given (Unit {0} × (1 ≤ length b)) (third first second)
 
-same_two : {first second : List ℕ} → Same (behind_two first second) ((blanks >> means (row.Concept first second)) ∣ (some_blanks >> third first second))
+same_two : {first second : List ℕ} → Same (behind_two_and_blanks first second) ((blanks >> means (row.Concept first second)) ∣ (some_blanks >> third first second))
 same_two = same_trans same_front (same_either same_refl (same_trans (same_sym same_some_blanks) (same_holds tt)))
 
 abbrev by_names : Grammar NamedRow
-by_names = name >>= λ first. some_blanks >> (name >>= λ second. behind_two first second)
+by_names = name >>= λ first. some_blanks >> (name >>= λ second. behind_two_and_blanks first second)
 
 abbrev spaced : NamedRow → Grammar NamedRow
 spaced r = blanks >> means r
@@ -73,7 +73,7 @@ a_blank b e = (tt, some (length b) (eqb-false (length b) 0 e))
     some : (n : ℕ) → (n ≡ 0 → ⊥) → 1 ≤ n
     some n h = omega arith
 
-reads_two : (first second : List ℕ) {text : List ℕ} → Reads (behind_two first second) Nothing text (third_and_blanks_at first second text)
+reads_two : (first second : List ℕ) {text : List ℕ} → Reads (behind_two_and_blanks first second) Nothing text (third_and_blanks_at first second text)
 unfolding third_and_blanks_at
 reads_two first second =
     reads_stop _ reads_blanks (λ b. first_or first_nothing (first_given (first_then (first_name starting_not_blank refl)))) (λ b rest.
@@ -88,15 +88,15 @@ reads_two first second =
 first_same : {V : Type 0} {g g' : Grammar V} {G : Follow V} {p : ℕ → Bool} {answer : Bool} → Same g g' → FirstIs g' G p answer → FirstIs g G p answer
 first_same same d = record { is = λ t w k s f. d.is t w k (same.to t w s) f }
 
-first_behind : (first second : List ℕ) → FirstIs (behind_two first second) Nothing is_name_byte false
-first_behind first second = first_same same_two (first_or (first_blanks (blank_not is_name_byte refl refl) (λ _. first_nothing)) (first_then (first_some_blanks (blank_not is_name_byte refl refl))))
+first_behind_and_blanks : (first second : List ℕ) → FirstIs (behind_two_and_blanks first second) Nothing is_name_byte false
+first_behind_and_blanks first second = first_same same_two (first_or (first_blanks (blank_not is_name_byte refl refl) (λ _. first_nothing)) (first_then (first_some_blanks (blank_not is_name_byte refl refl))))
 
 reads_row : {text : List ℕ} → Reads row_and_blanks Nothing text (row_and_blanks_at text)
 unfolding row_and_blanks_at
 reads_row = reads_same same_rows
     (reads_stop _ reads_name (λ first. first_then (first_some_blanks (blank_not is_name_byte refl refl))) (λ first rest.
     reads_stop _ reads_some_blanks (λ _. first_then (first_name starting_not_blank refl)) (λ _ rest.
-    reads_stop _ reads_name (λ second. first_behind first second) (λ second rest. reads_two first second))))
+    reads_stop _ reads_name (λ second. first_behind_and_blanks first second) (λ second rest. reads_two first second))))
 
 -- ---- the forms
 

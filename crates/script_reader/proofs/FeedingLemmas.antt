@@ -1,15 +1,13 @@
 -- What was fed and what is held.
-use Rattle.std.proofs.Common.{◌≡◌, ℕ, ◌+◌, ◌<◌, ◌≤◌, Bool, true, false, List, [], ◌∷◌, ◌++◌, length, take, Option, Some, None, refl, sym, ap, subst, ◌∙◌, append_assoc, arith, if◌then◌else◌}
+use Rattle.std.proofs.Common.{◌≡◌, ℕ, ◌+◌, ◌<◌, ◌≤◌, Bool, true, false, List, [], ◌∷◌, ◌++◌, length, take, Option, Some, None, refl, sym, ap, subst, ◌∙◌, arith, if◌then◌else◌}
 use Rattle.std.specs.Prelude.{nat_lt}
-use Rattle.std.specs.List.{flat_map, AllByRecursion}
 use Rattle.std.proofs.lemmas.Bool.{ltb-true, ltb-false}
-use Rattle.std.proofs.lemmas.Grind.{flat_map-append}
-use Rattle.std.proofs.lemmas.List.{append-nil, take_all}
+use Rattle.std.proofs.lemmas.List.{take_all}
 use Rattle.script_reader.specs.Lines.{HasNoEnd, line_of, given}
-use Rattle.script_reader.specs.Feeding.{LineSoFar, kept, begun, told, IsBehind, EndsWithin, Tells, FeedsLine, TellsLast, KeptGivesLine}
+use Rattle.script_reader.specs.Feeding.{LineSoFar, kept, begun, told, IsBehind, EndsWithin, Tells, FeedsLine, KeptGivesLine}
 use Rattle.script_reader.specs.declared.lines.Fed.{Fed}
 use Rattle.script_reader.specs.declared.lines.Fed.TheVariants as fed
-use Rattle.script_reader.proofs.LineLemmas.{FoundEnd, kept_more, stands}
+use Rattle.script_reader.proofs.LineLemmas.{FoundEnd, cut_ends, cut_goes_on, kept_more, stands}
 
 abbrev pub so_far : List ℕ → Bool → LineSoFar
 so_far bytes ended = record { bytes = bytes; ended = ended }
@@ -70,55 +68,29 @@ begun_is bytes line b = by line.ended refl
     by true e = rw e (sym (ap kept (b.closed e).nothing_behind))
     by false e = rw e (b.goes_on e)
 
-all_push : {X : Type 0} (P : X → Type 0) (xs : List X) (x : X) → AllByRecursion P xs → P x → AllByRecursion P (xs ++ x ∷ [])
-all_push P [] x all p = (p, tt)
-all_push P (y ∷ ys) x all p = (all.0, all_push P ys x all.1 p)
-
-both_no_end : (a b : List ℕ) → HasNoEnd a → HasNoEnd b → HasNoEnd (a ++ b)
-both_no_end [] b x y = y
-both_no_end (c ∷ a) b x y = (x.0, both_no_end a b x.1 y)
-
 open_behind : (bytes input : List ℕ) (old : LineSoFar) → IsBehind bytes old → HasNoEnd input → IsBehind (bytes ++ input) (record { bytes = kept (begun old ++ input); ended = false })
 open_behind bytes input old b none = record {
   pieces = b.pieces;
   rest = b.rest ++ input;
-  cut = record {
-    joined = ap (λ (l : List ℕ). l ++ input) b.cut.joined ∙ append_assoc (flat_map (λ piece. piece ++ 10 ∷ []) b.pieces) b.rest input;
-    none_inside = b.cut.none_inside;
-    none_behind = both_no_end b.rest input b.cut.none_behind none;
-  };
+  cut = cut_goes_on bytes input b.rest b.pieces b.cut none;
   goes_on = λ _. ap (λ (l : List ℕ). kept (l ++ input)) (begun_is bytes old b) ∙ kept_more b.rest input;
   closed = λ no. absurd cc;
 }
 
 closed_behind : (bytes text : List ℕ) (old : LineSoFar) → IsBehind bytes old → HasNoEnd text → IsBehind (bytes ++ (text ++ 10 ∷ [])) (record { bytes = kept (begun old ++ text); ended = true })
-closed_behind bytes text old b none =
-    let f : List ℕ → List ℕ = λ piece. piece ++ 10 ∷ [] in
-    let front = flat_map f b.pieces in
-    let piece = b.rest ++ text in
-    record {
-      pieces = b.pieces ++ piece ∷ [];
-      rest = [];
-      cut = record {
-        joined =
-            ap (λ (l : List ℕ). l ++ (text ++ 10 ∷ [])) b.cut.joined
-            ∙ append_assoc front b.rest (text ++ 10 ∷ [])
-            ∙ ap (λ (l : List ℕ). front ++ l) (sym (append_assoc b.rest text (10 ∷ [])))
-            ∙ ap (λ (l : List ℕ). front ++ l) (sym (append-nil (piece ++ 10 ∷ [])))
-            ∙ sym (flat_map-append f b.pieces (piece ∷ []))
-            ∙ sym (append-nil (flat_map f (b.pieces ++ piece ∷ [])));
-        none_inside = all_push HasNoEnd b.pieces piece b.cut.none_inside (both_no_end b.rest text b.cut.none_behind none);
-        none_behind = tt;
-      };
-      goes_on = λ no. absurd cc;
-      closed = λ _. record {
-        before = b.pieces;
-        piece = piece;
-        pieces_are = refl;
-        nothing_behind = refl;
-        is_kept = ap (λ (l : List ℕ). kept (l ++ text)) (begun_is bytes old b) ∙ kept_more b.rest text;
-      };
-    }
+closed_behind bytes text old b none = record {
+  pieces = b.pieces ++ (b.rest ++ text) ∷ [];
+  rest = [];
+  cut = cut_ends bytes text b.rest b.pieces b.cut none;
+  goes_on = λ no. absurd cc;
+  closed = λ _. record {
+    before = b.pieces;
+    piece = b.rest ++ text;
+    pieces_are = refl;
+    nothing_behind = refl;
+    is_kept = ap (λ (l : List ℕ). kept (l ++ text)) (begun_is bytes old b) ∙ kept_more b.rest text;
+  };
+}
 
 -- ---- what is told
 

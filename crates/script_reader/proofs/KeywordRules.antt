@@ -13,7 +13,7 @@ use Rattle.grammar.proofs.Exact.{IsExact, IsRead, SameHead}
 use Rattle.grammar.proofs.Parts.{Stops}
 use Rattle.grammar.proofs.Rules.{reads_blanks}
 use Rattle.script_reader.specs.DocLines.{AreBlank, BeginsUnblank, IsWithoutBlanksBehind, IsTrimmed, Follows}
-use Rattle.script_reader.proofs.BlankRules.{all_joined}
+use Rattle.script_reader.proofs.ListLemmas.{all_joined}
 
 -- ---- blanks
 

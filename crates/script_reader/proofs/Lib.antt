@@ -1,3 +1,4 @@
+pub mod ListLemmas
 pub mod BlankRules
 pub mod KeywordRules
 pub mod RowRules
@@ -6,7 +7,9 @@ pub mod LineDecisions
 pub mod CommandRules
 pub mod CommandQueries
 pub mod LineLemmas
+pub mod InputLemmas
 pub mod FeedingLemmas
+pub mod QuerySafety
 pub mod RequestOnce
 pub mod RequestParts
 pub mod EndRules

@@ -20,7 +20,8 @@ use Rattle.script_reader.specs.RowReading.{row_text_at}
 use Rattle.script_reader.specs.DocLines.{AreBlank, BeginsUnblank, EndsUnblank, IsWithoutBlanksBehind, IsTrimmed, IsDocLine, row_text, line_text, Follows}
 use Rattle.script_reader.specs.declared.doc_line.DocLine.{DocLine}
 use Rattle.script_reader.specs.declared.doc_line.DocLine.TheVariants as line
-use Rattle.script_reader.proofs.BlankRules.{same_head, same_tail, nothing_cut, blank_not, trimmed_once}
+use Rattle.script_reader.proofs.BlankRules.{nothing_cut, blank_not, trimmed_once}
+use Rattle.script_reader.proofs.ListLemmas.{same_head, same_tail}
 use Rattle.script_reader.proofs.KeywordRules.{first_of, follows_on, follows_back, keyword_absent}
 use Rattle.script_reader.proofs.LineRules.{axiom_says, fact_says, ask_says, says_axiom, says_fact, says_ask, made_of, none_made, blank_text, comment_text, nothing_said}
 use Rattle.script_reader.proofs.RowRules.{reads_row}

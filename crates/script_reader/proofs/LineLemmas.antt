@@ -4,9 +4,11 @@ use Rattle.std.specs.Prelude.{nat_lt}
 use Rattle.std.specs.List.{flat_map, AllByRecursion, position, position_or_len}
 use Rattle.std.proofs.lemmas.List.{append-nil, length-take, length-take-le, take_more, take_all, take-append-le, get_or-take}
 use Rattle.std.proofs.lemmas.List.Sums.{prefix_len_passes, prefix_len_stops}
+use Rattle.std.proofs.lemmas.Grind.{flat_map-append}
 use Rattle.std.proofs.lemmas.Bool.{eqb-false, eqb-true, ltb-true, ltb-false, cases_order}
 use Rattle.std.proofs.Math.Seq.{take-append-add}
 use Rattle.dl_base.proofs.DerivationLemmas.{all-by}
+use Rattle.script_reader.proofs.ListLemmas.{all_joined, all_push}
 use Rattle.script_reader.specs.Lines.{HasNoEnd, IsCut, AreLines, line_of, last_line}
 use Rattle.script_reader.specs.Feeding.{kept, StandsFor}
 
@@ -114,10 +116,6 @@ record CutFrom (o bytes : List ℕ) : Type 0 where
   none_inside : AllByRecursion HasNoEnd (ended_from o bytes)
   none_behind : HasNoEnd (open_from o bytes)
 
-all_push : (P : ℕ → Type 0) (xs : List ℕ) (x : ℕ) → AllByRecursion P xs → P x → AllByRecursion P (xs ++ x ∷ [])
-all_push P [] x all p = (p, tt)
-all_push P (y ∷ ys) x all p = (all.0, all_push P ys x all.1 p)
-
 cut_from : (o bytes : List ℕ) → HasNoEnd o → CutFrom o bytes
 cut_from o [] none = record { joined = append-nil o; none_inside = tt; none_behind = none }
 cut_from o (b ∷ bytes) none = by (b == 10) refl (cut_from [] bytes tt) (λ no. cut_from (o ++ b ∷ []) bytes (all_push (λ b. b ≡ 10 → ⊥) o b none no))
@@ -140,6 +138,31 @@ cut_from o (b ∷ bytes) none = by (b == 10) refl (cut_from [] bytes tt) (λ no.
 
 pub is_cut : (bytes : List ℕ) → IsCut bytes (ended_from [] bytes) (open_from [] bytes)
 is_cut bytes = let c = cut_from [] bytes tt in record { joined = c.joined; none_inside = c.none_inside; none_behind = c.none_behind }
+
+-- the cut goes on with bytes that have no line end, and with a line end
+pub cut_goes_on : (bytes input rest : List ℕ) (pieces : List (List ℕ)) → IsCut bytes pieces rest → HasNoEnd input → IsCut (bytes ++ input) pieces (rest ++ input)
+cut_goes_on bytes input rest pieces c none = record {
+  joined = ap (λ (l : List ℕ). l ++ input) c.joined ∙ append_assoc (flat_map (λ piece. piece ++ 10 ∷ []) pieces) rest input;
+  none_inside = c.none_inside;
+  none_behind = all_joined (λ b. b ≡ 10 → ⊥) rest input c.none_behind none;
+}
+
+pub cut_ends : (bytes text rest : List ℕ) (pieces : List (List ℕ)) → IsCut bytes pieces rest → HasNoEnd text → IsCut (bytes ++ (text ++ 10 ∷ [])) (pieces ++ (rest ++ text) ∷ []) []
+cut_ends bytes text rest pieces c none =
+    let f : List ℕ → List ℕ = λ piece. piece ++ 10 ∷ [] in
+    let front = flat_map f pieces in
+    let piece = rest ++ text in
+    record {
+      joined =
+          ap (λ (l : List ℕ). l ++ (text ++ 10 ∷ [])) c.joined
+          ∙ append_assoc front rest (text ++ 10 ∷ [])
+          ∙ ap (λ (l : List ℕ). front ++ l) (sym (append_assoc rest text (10 ∷ [])))
+          ∙ ap (λ (l : List ℕ). front ++ l) (sym (append-nil (piece ++ 10 ∷ [])))
+          ∙ sym (flat_map-append f pieces (piece ∷ []))
+          ∙ sym (append-nil (flat_map f (pieces ++ piece ∷ [])));
+      none_inside = all_push HasNoEnd pieces piece c.none_inside (all_joined (λ b. b ≡ 10 → ⊥) rest text c.none_behind none);
+      none_behind = tt;
+    }
 
 -- the cut is one
 pub cut_ended : (pieces : List (List ℕ)) (rest : List ℕ) → AllByRecursion HasNoEnd pieces → HasNoEnd rest → ended_from [] (flat_map (λ piece. piece ++ 10 ∷ []) pieces ++ rest) ≡ pieces

@@ -1,15 +1,9 @@
 -- A line by itself is one request, or says nothing, or opens a block.
-use Rattle.std.proofs.Common.{◌≡◌, ℕ, ◌+◌, ◌<◌, ◌≤◌, inl, inr, List, [], ◌∷◌, ◌++◌, length, Some, None, All, Contains, refl, sym, ap, subst, ◌∙◌, arith}
-use Rattle.std.specs.List.{AllByRecursion}
-use Rattle.std.proofs.lemmas.List.Elements.{All-contains}
-use Rattle.std.proofs.Math.Seq.{get_or-append_seam}
-use Rattle.std.proofs.lemmas.List.{length-append}
+use Rattle.std.proofs.Common.{◌≡◌, ℕ, ◌+◌, List, Some, None, refl, sym, ap, subst, ◌∙◌}
 use Rattle.grammar.proofs.FaultPlaces.{fault_once}
-use Rattle.dl_base.specs.Query.{Question, IsQuery, HasFewTerms, terms}
-use Rattle.dl_base.proofs.DerivationLemmas.{all-by}
-use Rattle.dl_base.proofs.PlaceLemmas.{no_more}
+use Rattle.dl_base.specs.Query.{Question, IsQuery}
 use Rattle.axiom_reader.specs.Block.{Line}
-use Rattle.cq_reader.specs.QueryLimits.{IsSmall, IsTooLarge, HasMoreTerms, IsFirstUnbound, IsBoundVariable}
+use Rattle.cq_reader.specs.QueryLimits.{IsSmall, IsTooLarge, IsFirstUnbound}
 use Rattle.reply_text.specs.declared.reply.Refusal.TheVariants as refusal
 use Rattle.script_reader.specs.Commands.{AsksCommand, HasQuery, script_line, command_of, query_of}
 use Rattle.script_reader.specs.Requests.{IsAlone, Asks, SaysNothing, OpensBlock}
@@ -18,42 +12,9 @@ use Rattle.script_reader.specs.declared.command_tree.CommandTree.TheVariants as 
 use Rattle.script_reader.specs.declared.command.Command.{Command}
 use Rattle.script_reader.specs.declared.request.Request.{Request}
 use Rattle.script_reader.specs.declared.request.Request.TheVariants as request
+use Rattle.cq_reader.proofs.TermCounts.{small_not_too_large}
 use Rattle.script_reader.proofs.CommandQueries.{line_once}
-
--- ---- limits
-
-few_or_more : (q : Question) → HasFewTerms q 24 → HasMoreTerms q 24 → ⊥
-few_or_more q few more =
-    let le : length more.some ≤ length few.few = no_more more.some few.few more.distinct (λ z c. All-contains (Contains few.few) (terms q) z few.each (All-contains (Contains (terms q)) more.some z more.within c)) in
-    omega (arith, le, few.count, more.more)
-
-too_large_or : (q : Question) → length q.atoms ≤ 24 → length q.answers ≤ 24 → HasFewTerms q 24 → IsTooLarge q → ⊥
-too_large_or q atoms answers few (inl many) = omega (arith, atoms, many)
-too_large_or q atoms answers few (inr (inl many)) = omega (arith, answers, many)
-too_large_or q atoms answers few (inr (inr more)) = few_or_more q few more
-
-fit_or_large : (q : Question) → IsQuery q → IsTooLarge q → ⊥
-fit_or_large q is large = too_large_or q is.atoms is.answers is.distinct large
-
-small_or_large : (q : Question) → IsSmall q → IsTooLarge q → ⊥
-small_or_large q is large = too_large_or q is.atoms is.answers is.terms large
-
-safe_or_unsafe : (q : Question) (v : List ℕ) → IsQuery q → IsFirstUnbound q v → ⊥
-safe_or_unsafe q v is first =
-    let all : All (IsBoundVariable q) (first.before ++ v ∷ first.after) = subst (λ (l : List (List ℕ)). All (IsBoundVariable q) l) first.parts is.safe in
-    let within : length first.before < length (first.before ++ v ∷ first.after) = omega (arith, length-append first.before (v ∷ first.after)) in
-    first.here (subst (λ (x : List ℕ). IsBoundVariable q x) (get_or-append_seam first.before v first.after v) (all (length first.before) v within))
-
-first_of : {X : Type 0} (P : X → Type 0) (before before' : List X) (v v' : X) (after after' : List X) → before ++ v ∷ after ≡ before' ++ v' ∷ after' → AllByRecursion P before → AllByRecursion P before' → (P v → ⊥) → (P v' → ⊥) → v ≡ v'
-first_of P [] [] v v' after after' e all all' none none' = cc
-first_of P [] (x ∷ before') v v' after after' e all all' none none' = absurd (none (let same : x ≡ v = cc in subst P same all'.0))
-first_of P (x ∷ before) [] v v' after after' e all all' none none' = absurd (none' (let same : x ≡ v' = cc in subst P same all.0))
-first_of P (x ∷ before) (y ∷ before') v v' after after' e all all' none none' =
-    first_of P before before' v v' after after' (let more : before ++ v ∷ after ≡ before' ++ v' ∷ after' = cc in more) all.1 all'.1 none none'
-
-unbound_once : (q : Question) (v w : List ℕ) → IsFirstUnbound q v → IsFirstUnbound q w → v ≡ w
-unbound_once q v w a b =
-    first_of (IsBoundVariable q) a.before b.before v w a.after b.after (sym a.parts ∙ b.parts) (all-by (IsBoundVariable q) a.before a.bound) (all-by (IsBoundVariable q) b.before b.bound) a.here b.here
+use Rattle.script_reader.proofs.QuerySafety.{not_large, not_unsafe, unbound_once}
 
 -- ---- requests
 
@@ -72,19 +33,19 @@ pub asks_once : (line : Line) (q r : Request) → Asks line q → Asks line r �
 asks_once line q r Asks.too_long Asks.too_long = refl
 asks_once line q r (Asks.plain {text} {c} a x) (Asks.plain {c = d} b y) = ap request.Plain (command_once text c d a b)
 asks_once line q r (Asks.plain {text} {c} a x) (Asks.no_command place f) = absurd (f.outside (a.said, a.says))
-asks_once line q r (Asks.plain {text} {c} a x) (Asks.too_large p h large) = absurd (fit_or_large p (fits text c p a h) large)
-asks_once line q r (Asks.plain {text} {c} a x) (Asks.unsafe {v = v} p h small first) = absurd (safe_or_unsafe p v (fits text c p a h) first)
+asks_once line q r (Asks.plain {text} {c} a x) (Asks.too_large p h large) = absurd (not_large p (fits text c p a h) large)
+asks_once line q r (Asks.plain {text} {c} a x) (Asks.unsafe {v = v} p h small first) = absurd (not_unsafe p v (fits text c p a h) first)
 asks_once line q r (Asks.no_command place f) (Asks.plain b y) = absurd (f.outside (b.said, b.says))
 asks_once line q r (Asks.no_command {text} place f) (Asks.no_command at g) = ap (λ (n : ℕ). request.Bad (refusal.Syntax (n + 1))) (fault_once script_line text place at f g)
 asks_once line q r (Asks.no_command place f) (Asks.too_large p h large) = absurd (f.outside (h.said, h.says))
 asks_once line q r (Asks.no_command place f) (Asks.unsafe p h small first) = absurd (f.outside (h.said, h.says))
-asks_once line q r (Asks.too_large p h large) (Asks.plain {text = text} {c = d} b y) = absurd (fit_or_large p (fits text d p b h) large)
+asks_once line q r (Asks.too_large p h large) (Asks.plain {text = text} {c = d} b y) = absurd (not_large p (fits text d p b h) large)
 asks_once line q r (Asks.too_large p h large) (Asks.no_command at g) = absurd (g.outside (h.said, h.says))
 asks_once line q r (Asks.too_large p h large) (Asks.too_large p' h' large') = refl
-asks_once line q r (Asks.too_large {text} p h large) (Asks.unsafe p' h' small first) = absurd (small_or_large p (subst IsSmall (query_once text p' p h' h) small) large)
-asks_once line q r (Asks.unsafe {text} {v} p h small first) (Asks.plain {c = d} b y) = absurd (safe_or_unsafe p v (fits text d p b h) first)
+asks_once line q r (Asks.too_large {text} p h large) (Asks.unsafe p' h' small first) = absurd (small_not_too_large p (subst IsSmall (query_once text p' p h' h) small) large)
+asks_once line q r (Asks.unsafe {text} {v} p h small first) (Asks.plain {c = d} b y) = absurd (not_unsafe p v (fits text d p b h) first)
 asks_once line q r (Asks.unsafe p h small first) (Asks.no_command at g) = absurd (g.outside (h.said, h.says))
-asks_once line q r (Asks.unsafe {text} p h small first) (Asks.too_large p' h' large) = absurd (small_or_large p (small) (subst IsTooLarge (query_once text p' p h' h) large))
+asks_once line q r (Asks.unsafe {text} p h small first) (Asks.too_large p' h' large) = absurd (small_not_too_large p (small) (subst IsTooLarge (query_once text p' p h' h) large))
 asks_once line q r (Asks.unsafe {text} {v} p h small first) (Asks.unsafe {v = w} p' h' small' first') =
     ap (λ (n : List ℕ). request.Bad (refusal.UnsafeVariable n)) (unbound_once p v w first (subst (λ (x : Question). IsFirstUnbound x w) (query_once text p' p h' h) first'))
 

@@ -4,6 +4,7 @@
 mod command;
 mod command_tree;
 mod doc_line;
+mod input;
 pub mod laws;
 mod lines;
 mod request;
@@ -11,6 +12,7 @@ mod request;
 pub use command::{Command, read_command};
 pub use command_tree::CommandTree;
 pub use doc_line::{CommandError, DocLine, read_doc_line};
+pub use input::{MAX_INPUT, READ_BUFFER, room_after};
 pub use lines::{Fed, Lines};
 pub use request::{Request, ends_block};
 

@@ -2,7 +2,7 @@ use Rattle.std.proofs.Common.{⊎_elim, inl, inr, ◌++◌, [], ℕ, List, lengt
 use Rattle.std.proofs.lemmas.List.{append-nil, length-drop}
 use Rattle.run_loop.specs.Taking.{TakesBytes, EndedAt}
 use Rattle.run_loop.proofs.RequestLemmas.{stays_same, stays_on}
-use Rattle.run_loop.proofs.ByteLemmas.{split_more}
+use Rattle.script_reader.proofs.InputLemmas.{split_more}
 use Rattle.std.specs.Prelude.{false}
 use Rattle.run_loop.proofs.pieces.take_piece.Goals as goal
 

@@ -2,7 +2,8 @@ use Rattle.std.proofs.Common.{◌≡◌, ◌<◌, ◌+◌, ◌++◌, ℕ, List, 
 use Rattle.std.proofs.lemmas.List.{take-append-le}
 use Rattle.run_loop.specs.Run.{HasTaken}
 use Rattle.run_loop.specs.Taking.{TakesBytes, EndedAt}
-use Rattle.run_loop.proofs.RunLemmas.{Taken, taken_none, read_failed, at_end, too_large, failed, taken_more, within_room, length-piece, length-filled}
+use Rattle.run_loop.proofs.RunLemmas.{Taken, taken_none, read_failed, at_end, too_large, failed, taken_more}
+use Rattle.script_reader.proofs.InputLemmas.{length-filled, length-piece, within_room}
 use Rattle.run_loop.proofs.RequestLemmas.{stays_same, stays_on}
 use Rattle.run_loop.proofs.TakenLemmas.{has_none, has_more, takes_within, takes_all, takes_too_much}
 use Rattle.run_loop.proofs.reading.read_script.Goals as goal

@@ -1,6 +1,6 @@
 use Rattle.std.proofs.Common.{◌≡◌, ◌==◌, ◌++◌, ℕ, List, [], length, take, true, None, refl, sym, ap, subst, arith, length-append}
 use Rattle.script_reader.specs.declared.request.Request.{Request}
-use Rattle.run_loop.proofs.ByteLemmas.{nothing_left, split_more}
+use Rattle.script_reader.proofs.InputLemmas.{nothing_left, split_more}
 use Rattle.script_tally.specs.Gathering.{GathersAll, GathersBytes}
 use Rattle.script_tally.proofs.GatherLemmas.{none_gathered}
 use Rattle.script_tally.proofs.gathering.requests_of.Goals as goal
