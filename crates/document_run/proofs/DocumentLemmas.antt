@@ -9,7 +9,7 @@ use Rattle.document_run.specs.Document.{Context, nothing_said, with_line, Offend
 use Rattle.script_reader.specs.declared.doc_line.DocLine.{DocLine}
 use Rattle.document_run.specs.declared.reason.Reason.{Reason}
 use Rattle.script_reader.proofs.LineLemmas.{lines_are}
-use Rattle.script_reader.proofs.BlankRules.{same_head, same_tail}
+use Rattle.script_reader.proofs.ListLemmas.{same_head, same_tail}
 use Rattle.script_reader.proofs.LineRules.{line_once}
 use Rattle.document_run.proofs.ReasonLemmas.{reason_once}
 

@@ -1,11 +1,12 @@
 -- Laws of the facts of a document, as they are kept.
-use Rattle.std.proofs.Common.{◌≡◌, ◌≢◌, ℕ, ◌<◌, ◌≤◌, ◌⊎◌, ◌↔◌, inl, inr, Bool, true, false, List, [], ◌∷◌, ◌++◌, length, get_or, slice_get, All, AllPairs, Contains, Some, refl, sym, ap, subst, arith}
+use Rattle.std.proofs.Common.{◌≡◌, ◌≢◌, ℕ, ◌<◌, ◌≤◌, ◌⊎◌, ◌↔◌, inl, inr, Bool, true, false, List, [], ◌∷◌, ◌++◌, length, get_or, slice_get, All, AllPairs, Contains, Some, Result, Ok, Err, IfOk, OnOk, refl, sym, ap, subst, arith}
 use Rattle.std.specs.Prelude.{IsTrue, MatchBool}
 use Rattle.std.proofs.lemmas.Bool.{cases_order}
 use Rattle.std.proofs.lemmas.List.Elements.{Contains-append_left, Contains-push}
 use Rattle.std.proofs.lemmas.Option.{slice_get_within, slice_get-get_or}
 use Rattle.assert_tables.specs.Rows.{AreRisingRows, Gains, IsNamedIn}
 use Rattle.completion.specs.Numbered.{IsNamed, IsRowOf}
+use Rattle.completion.proofs.NamedLemmas.{rows_placed}
 use Rattle.dl_base.specs.Numbers.{NumbersRow, StandFor, names_in}
 use Rattle.dl_base.specs.Rows.{numbered_row_cmp}
 use Rattle.dl_base.specs.Axiom.{with_names}
@@ -161,6 +162,16 @@ kept_or_too_many o asserted facts true is t distinct within = facts_kept o asser
 kept_or_too_many o asserted facts false is t distinct within =
     past_a_limit o asserted facts.individuals facts.rows t is distinct (λ both. absurd (let e : false ≡ true = within.1 both in cc))
 
+-- the same where reading the counts may find no memory, and leaves what is kept
+pub kept_or_too_many_read : {E : Type 0} (o : Terminology) (asserted : List NamedRow) (names : List (List ℕ)) (rows : List Row) (facts : Facts) (r : Result Bool E) → IsTerminology o → Tracks o asserted names rows
+    → facts.individuals ≡ names → OnOk r (facts.rows ≡ rows) → OnOk r (AreRisingRows facts.rows) → IfOk r (λ fits. IsTrue fits ↔ ((length facts.rows ≤ 1000000) × (length facts.individuals ≤ 65536)))
+    → IfOk r (λ fits. MatchBool fits (KeepsFacts o asserted facts) (TooManyFacts asserted))
+kept_or_too_many_read o asserted names rows facts (Err e) is t same_names same_rows rises within = tt
+kept_or_too_many_read o asserted names rows facts (Ok fits) is t same_names same_rows rises within =
+    kept_or_too_many o asserted facts fits is
+    (subst (λ (ns : List (List ℕ)). Tracks o asserted ns facts.rows) (sym same_names) (subst (λ (rs : List Row). Tracks o asserted names rs) (sym same_rows) t))
+    (rows_distinct facts.rows rises) within
+
 nobody : {X : Type 0} (xs : List X) (x : X) → xs ≡ [] → Contains xs x → ⊥
 nobody {X} xs x e c = let d : Contains [] x = subst (λ (ys : List X). Contains ys x) e c in absurd (omega (arith, d.1))
 
@@ -203,18 +214,9 @@ facts_of_none o new asserted facts none k = record {
   few_rows = k.few_rows;
 }
 
-row_within : (o : Terminology) (names : List (List ℕ)) (r : NamedRow) (n : Row) → NumbersRow o names r n → IsRowOf o n
-row_within o names (named.Concept c a) (row.Concept k n) e = slice_get_within o.concepts k c e.0
-row_within o names (named.Role p a b) (row.Role k n m) e = slice_get_within o.roles k p e.0
-row_within o names (named.Concept c a) (row.Role k n m) e = absurd e
-row_within o names (named.Role p a b) (row.Concept k n) e = absurd e
-
 -- the rows are of concepts and roles of the ontology
 pub rows_within : (o : Terminology) (asserted : List NamedRow) (facts : Facts) → KeepsFacts o asserted facts → All (IsRowOf o) facts.rows
-rows_within o asserted facts k = λ i d below.
-    let n : Row = get_or facts.rows i d in
-    let found = k.stand.only (get_or facts.rows i d) (member_at facts.rows i (get_or facts.rows i d) (slice_get-get_or facts.rows i d below)) in
-    row_within o facts.individuals found.0 (get_or facts.rows i d) found.2
+rows_within o asserted facts k = rows_placed o facts.individuals facts.rows asserted k.stand
 
 named_within : (o : Terminology) (names : List (List ℕ)) (r : NamedRow) (x : Row) (n : ℕ) → NumbersRow o names r x → IsNamedIn n x → n < length names
 named_within o names (named.Concept c a) (row.Concept k m) n e (inl same) = omega (arith, same, slice_get_within names m a e.1)

@@ -1,7 +1,6 @@
 -- A run so far.
-use Rattle.std.proofs.Common.{◌≡◌, ◌≢◌, ◌==◌, true, ◌≤◌, ◌<◌, ◌+◌, ◌-◌, ◌^◌, ℕ, List, [], ◌∷◌, ◌++◌, length, take, drop, map, refl, sym, ◌∙◌, ap, subst, append_assoc, arith, Some, Option, Result, Ok, Err, length-append}
-use Rattle.std.proofs.lemmas.List.{length-take, length-drop, length-map, append-nil, map-append, take_all, take-append-drop}
-use Rattle.std.proofs.lemmas.Bool.{eqb-true}
+use Rattle.std.proofs.Common.{◌≡◌, ◌≢◌, true, ◌≤◌, ◌<◌, ◌+◌, ◌-◌, ◌^◌, ℕ, List, [], ◌∷◌, ◌++◌, length, take, map, refl, sym, ◌∙◌, ap, subst, append_assoc, arith, Some, Option, Result, Ok, Err, length-append}
+use Rattle.std.proofs.lemmas.List.{length-take, length-map, append-nil, map-append, take_all}
 use Rattle.host_io.specs.Source.{Takes, AtEnd}
 use Rattle.script_reader.specs.Lines.{AreLines, line_of, last_line}
 use Rattle.script_reader.specs.Feeding.{LineSoFar, IsBehind, Tells, TellsLast, begun, kept, EndsWithin, GoesOnOver}
@@ -204,17 +203,6 @@ pub stops_final : (result : Result Document DocumentEnding) (read rest : List �
 stops_final (Ok document) read rest is gave = (gave, is)
 stops_final (Err ending) read rest is gave = ends_final ending read rest is gave
 
--- a read takes no more than it has room for
-pub within_room : (n m : ℕ) (buffer whole : List ℕ) → n ≤ length buffer → length buffer ≡ length (take m whole) → n ≤ m
-within_room n m buffer whole le same = omega (arith, le, same, length-take m whole)
-
-pub length-piece : (n : ℕ) (buffer : List ℕ) → n ≤ length buffer → length (take n buffer) ≡ n
-length-piece n buffer le = omega (arith, length-take n buffer)
-
--- a buffer keeps its length where its front is read into
-pub length-filled : (room : ℕ) (front whole : List ℕ) → length front ≡ length (take room whole) → room ≤ length whole → length (front ++ drop room whole) ≡ length whole
-length-filled room front whole same le = omega (arith, same, le, length-append front (drop room whole), length-drop room whole, length-take room whole)
-
 -- ---- the endings of a call
 
 -- a reply ends after the whole input
@@ -234,15 +222,3 @@ ends_early ending.InputTooLarge read rest old new ends same = (ends, same)
 ends_early ending.ReadFault read rest old new ends same = (ends, same)
 ends_early ending.Done read rest old new ends same = absurd ends
 ends_early ending.PrintFault read rest old new ends same = absurd ends
-
--- ---- a piece, part by part
-
-pub split_more : (piece front rest : List ℕ) (count : ℕ) → piece ≡ front ++ rest → piece ≡ (front ++ take count rest) ++ take (length rest - count) (drop count rest)
-split_more piece front rest count is =
-    let more : take (length rest - count) (drop count rest) ≡ drop count rest = take_all (length rest - count) (drop count rest) (omega (arith, length-drop count rest)) in
-    is ∙ ap (λ (l : List ℕ). front ++ l) (sym (ap (λ (l : List ℕ). take count rest ++ l) more ∙ take-append-drop count rest))
-    ∙ sym (append_assoc front (take count rest) (take (length rest - count) (drop count rest)))
-
-pub nothing_left : (piece front rest : List ℕ) → piece ≡ front ++ rest → (length rest == 0) ≡ true → front ≡ piece
-nothing_left piece front [] is empty = sym (is ∙ append-nil front)
-nothing_left piece front (b ∷ rest) is empty = absurd (omega (arith, eqb-true (length (b ∷ rest)) 0 empty))

@@ -33,7 +33,8 @@ use Rattle.document_run.proofs.ReasonLemmas.{NoneBelow, HoldsFor, none_misplaced
 use Rattle.document_run.proofs.OntologyLemmas.{ontology_more, ontology_same, axioms_fit, axioms_pass}
 use Rattle.document_run.proofs.FactLemmas.{no_facts, some_facts, facts_of_none, facts_fit}
 use Rattle.dl_base.proofs.PlaceLemmas.{member_at}
-use Rattle.document_run.proofs.QueryLemmas.{not_large, not_unsafe, none_unknown, unknown_concept, unknown_role, not_both_first}
+use Rattle.script_reader.proofs.QuerySafety.{not_large, not_unsafe}
+use Rattle.document_run.proofs.QueryLemmas.{none_unknown, unknown_concept, unknown_role, not_both_first}
 use Rattle.document_run.proofs.DraftLemmas.{refused_by, kept_more}
 use Rattle.dl_base.specs.declared.query.Atom.TheVariants as atom
 

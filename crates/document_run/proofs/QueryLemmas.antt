@@ -1,37 +1,20 @@
--- Queries of a document: those within the limits, and names that the axioms lack.
+-- Queries of a document: names that the axioms lack.
 use Rattle.std.proofs.Common.{◌≡◌, ℕ, zero, suc, List, [], ◌∷◌, ◌++◌, take, drop, slice_get, All, Contains, Some, refl, sym, ◌∙◌, ap, subst}
-use Rattle.std.specs.List.{AllByRecursion, AllZip}
 use Rattle.dl_base.specs.Ontology.{Terminology}
 use Rattle.dl_base.specs.Axiom.{Statement}
-use Rattle.dl_base.specs.Query.{Question, IsQuery, terms}
+use Rattle.dl_base.specs.Query.{Question}
 use Rattle.dl_base.specs.declared.query.Term.{Term}
-use Rattle.dl_base.specs.declared.query.Term.TheVariants as term
 use Rattle.dl_base.specs.declared.query.Atom.{Atom}
 use Rattle.dl_base.specs.declared.query.Atom.TheVariants as atom
-use Rattle.dl_base.proofs.DerivationLemmas.{all-of, all-by}
+use Rattle.dl_base.proofs.DerivationLemmas.{all-by}
 use Rattle.dl_base.proofs.RisingLemmas.{all_contains, contains_first}
-use Rattle.cq_reader.specs.QueryLimits.{IsTooLarge, IsFirstUnbound}
-use Rattle.cq_reader.proofs.TermCounts.{small_not_too_large}
-use Rattle.query_shape.specs.Shape.{IsShapeOf, NumbersAtom, Layout}
-use Rattle.query_shape.proofs.NumberingLemmas.{known_of}
 use Rattle.query_shape.specs.ShapeFault.{IsKnown, IsFirstFault, IsAtomFault}
-use Rattle.query_shape.specs.declared.layout.ShapeAtom.{ShapeAtom}
 use Rattle.query_shape.specs.declared.numbering.ShapeError.{ShapeError}
 use Rattle.query_shape.specs.declared.numbering.ShapeError.TheVariants as errors
 use Rattle.document_run.specs.Document.{Context, vocabulary, IsFirstUnknown}
 use Rattle.document_run.specs.Drafting.{KeepsOntology}
-use Rattle.script_reader.proofs.BlankRules.{same_head, same_tail}
+use Rattle.script_reader.proofs.ListLemmas.{first_once}
 use Rattle.std.proofs.lemmas.List.Elements.{Contains-append_right}
-
--- ---- the limits
-
-pub not_large : (q : Question) → IsQuery q → IsTooLarge q → ⊥
-not_large q is = small_not_too_large q (record { atoms = is.atoms; answers = is.answers; terms = is.distinct })
-
-pub not_unsafe : (q : Question) (v : List ℕ) → IsQuery q → IsFirstUnbound q v → ⊥
-not_unsafe q v is f =
-    f.here (all_contains (λ w. Contains (terms q) (term.Var w)) q.answers v (all-by (λ w. Contains (terms q) (term.Var w)) q.answers is.safe)
-    (subst (λ (vs : List (List ℕ)). Contains vs v) (sym f.parts) (Contains-append_right f.before (v ∷ f.after) v (contains_first v f.after))))
 
 -- ---- names
 
@@ -89,26 +72,7 @@ module _ (said : Context) (o : Terminology) (k : KeepsOntology said o) where
     pub unknown_role : (name : List ℕ) → IsFirstFault o q.atoms (errors.UnknownRole name) → (n : List ℕ) × (t : Term) × (u : Term) × IsFirstUnknown said.axioms q (atom.Role n t u)
     unknown_role name f = role_unknown name f f.atom refl f.fault
 
--- ---- what has a shape has known names
-
-atoms_known : (o : Terminology) (ts : List Term) (atoms : List Atom) (ss : List ShapeAtom) → AllZip (NumbersAtom o ts) atoms ss → AllByRecursion (IsKnown o) atoms
-atoms_known o ts [] ss each = tt
-atoms_known o ts (a ∷ atoms) [] each = absurd each
-atoms_known o ts (a ∷ atoms) (s ∷ ss) (first, rest) = (known_of o ts a s first, atoms_known o ts atoms ss rest)
-
-pub shape_known : (o : Terminology) (q : Question) (s : Layout) → IsShapeOf o q s → All (IsKnown o) q.atoms
-shape_known o q s is = all-of (IsKnown o) q.atoms (atoms_known o s.terms q.atoms s.atoms is.atoms_are)
-
 -- ---- the first unknown atom is one
-
--- two first ones of a list are one
-first_once : {X : Type 0} (P : X → Type 0) (front front' : List X) (x y : X) (more more' : List X) → front ++ x ∷ more ≡ front' ++ y ∷ more'
-    → AllByRecursion P front → AllByRecursion P front' → (P x → ⊥) → (P y → ⊥) → x ≡ y
-first_once P [] [] x y more more' same all all' not not' = same_head x y more more' same
-first_once P [] (z ∷ front') x y more more' same all all' not not' = absurd (not (subst P (sym (same_head x z more (front' ++ y ∷ more') same)) all'.0))
-first_once P (z ∷ front) [] x y more more' same all all' not not' = absurd (not' (subst P (same_head z y (front ++ x ∷ more) more' same) all.0))
-first_once P (z ∷ front) (w ∷ front') x y more more' same all all' not not' =
-    first_once P front front' x y more more' (same_tail z w (front ++ x ∷ more) (front' ++ y ∷ more') same) all.1 all'.1 not not'
 
 -- it isn't a concept's and a role's
 pub not_both_first : (axioms : List Statement) (q : Question) (n m : List ℕ) (t s u : Term) → IsFirstUnknown axioms q (atom.Concept n t) → IsFirstUnknown axioms q (atom.Role m s u) → ⊥

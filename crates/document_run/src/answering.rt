@@ -49,14 +49,14 @@ pub fn answer<S: Source, H: Host>(alloc: Global, source: &mut S, host: &mut H) -
         → (result ≡ DocumentEnding.Done) ⊎ (result ≡ DocumentEnding.ReadFault) ⊎ (result ≡ DocumentEnding.PrintFault) ⊎ (result ≡ DocumentEnding.NoMemory)) }
 {
     match read_document(alloc, source) {
-        Ok(document) => reply(alloc, host, &document),
+        Ok(document) => reply(alloc, host, document),
         Err(ending) => ending,
     }
 }
 
 /// Prints the reply to the document.
-fn reply<H: Host>(alloc: Global, host: &mut H, document: &Document) -> DocumentEnding
-    requires { IsSoundDocument document.now }
+fn reply<H: Host>(alloc: Global, host: &mut H, document: Document) -> DocumentEnding
+    requires { IsSoundDocument document }
     ensures only { (result ≡ DocumentEnding.Done) ⊎ (result ≡ DocumentEnding.PrintFault) ⊎ (result ≡ DocumentEnding.NoMemory) }
     ensures fault { result ≡ DocumentEnding.PrintFault → Rose (H.print_faults host.old) (H.print_faults host.new) }
     ensures later { H.print_faults host.old ≤ H.print_faults host.new }
@@ -64,7 +64,7 @@ fn reply<H: Host>(alloc: Global, host: &mut H, document: &Document) -> DocumentE
     ensures silent { result ≡ DocumentEnding.NoMemory → host.new ≡ host.old }
     ensures disk { H.disk host.new ≡ H.disk host.old }
     ensures disk_faults { H.disk_faults host.new ≡ H.disk_faults host.old }
-    ensures replies { (read : List ℕ) → IsDocumentOf read document.now → Replies result read (H.printed host.old) (H.printed host.new) }
+    ensures replies { (read : List ℕ) → IsDocumentOf read document → Replies result read (H.printed host.old) (H.printed host.new) }
 {
     let Ok(shown) = document_reply::<Brand>(alloc, document, Blank::new(1)) else {
         return DocumentEnding::NoMemory;

@@ -8,7 +8,7 @@ ghost use Rattle.dl_base.specs.declared.row.NamedRow.{NamedRow as AnyRow};
 ghost use Rattle.document_run.specs.Document.{TooManyFacts};
 ghost use Rattle.document_run.specs.Facts.{KeepsFacts};
 
-use assert_tables::Assertions;
+use assert_tables::GatheredRows;
 use dl_base::{NameBook, NamedRow, Row};
 use std::alloc::{AllocError, Global};
 
@@ -18,11 +18,11 @@ const MOST_ROWS: u64 = 1_000_000;
 /// The most individuals of a document.
 const MOST_INDIVIDUALS: usize = 65_536;
 
-/// The individuals in the order in which they were first named, and the rows by their numbers, each once.
+/// The individuals in the order in which they were first named, and the rows by their numbers, which are put in order together.
 #[derive(Drop)]
 pub struct Facts {
     pub individuals: NameBook,
-    pub rows: Assertions,
+    pub rows: GatheredRows,
 }
 
 impl Facts {
@@ -33,7 +33,7 @@ impl Facts {
     {
         Facts {
             individuals: NameBook::new(alloc),
-            rows: Assertions::new(alloc),
+            rows: GatheredRows::new(alloc),
         }
     }
 
@@ -41,7 +41,7 @@ impl Facts {
     pub fn is_empty(&self) -> bool
         ensures { IsTrue result ↔ (length self.now.rows ≡ 0) }
     {
-        self.rows.rows() == 0
+        self.rows.is_empty()
     }
 
     /// Adds a row, whose concept or role has this place, and answers whether the facts are within the limits. Else they
@@ -50,23 +50,25 @@ impl Facts {
         ensures { (o : Terminology) (asserted : List AnyRow) → IsTerminology o → KeepsFacts o asserted self.old → IsPlaceOf o row.now place
             → IfOk result (λ fits. MatchBool fits (KeepsFacts o (asserted ++ row.now ∷ []) self.new) (TooManyFacts (asserted ++ row.now ∷ []))) }
     {
-        if !self.are_within() {
+        if !self.are_within()? {
             return Ok(false);
         }
         let row = self.numbered(place, row)?;
         self.rows.add(row)?;
-        Ok(self.are_within())
+        self.are_within()
     }
 
     /// Whether the facts are within the limits.
-    fn are_within(&self) -> bool
-        ensures within { IsTrue result ↔ ((length self.now.rows ≤ 1000000) × (length self.now.individuals ≤ 65536)) }
-        ensures distinct { AllPairs (λ x y. x ≢ y) self.now.individuals }
-        ensures rising { AreRisingRows self.now.rows }
+    fn are_within(&mut self) -> Result<bool, AllocError>
+        ensures within { IfOk result (λ within. IsTrue within ↔ ((length self.new.rows ≤ 1000000) × (length self.new.individuals ≤ 65536))) }
+        ensures individuals { self.new.individuals ≡ self.old.individuals }
+        ensures rows { OnOk result (self.new.rows ≡ self.old.rows) }
+        ensures distinct { AllPairs (λ x y. x ≢ y) self.new.individuals }
+        ensures rising { OnOk result (AreRisingRows self.new.rows) }
     {
-        let rows = self.rows.rows();
         let individuals = self.individuals.len();
-        rows <= MOST_ROWS && individuals <= MOST_INDIVIDUALS
+        let few = self.rows.has_at_most(MOST_ROWS)?;
+        Ok(few && individuals <= MOST_INDIVIDUALS)
     }
 
     /// The row by numbers, of which new individuals get the next ones.

@@ -10,14 +10,8 @@ ghost use Rattle.document_run.specs.Run.{HasStopped, IsEarly, IsFinal, IsReading
 use crate::document::{Document, Draft};
 use crate::ending::DocumentEnding;
 use host_io::{Failed, Source};
-use script_reader::{Fed, Lines};
+use script_reader::{Fed, Lines, MAX_INPUT, READ_BUFFER, room_after};
 use std::alloc::{AllocError, Global};
-
-/// The most bytes of an input.
-const MAX_INPUT: u64 = 67_108_864;
-
-/// How many bytes a read may take at once.
-const BUFFER: usize = 65_536;
 
 /// The document that the source gives, read to its end, or how the run ends without a reply.
 pub fn read_document<S: Source>(alloc: Global, source: &mut S) -> Result<Document, DocumentEnding>
@@ -34,7 +28,7 @@ pub fn read_document<S: Source>(alloc: Global, source: &mut S) -> Result<Documen
     let Ok(lines) = Lines::new(alloc) else {
         return Err(DocumentEnding::NoMemory);
     };
-    let Ok(mut buffer) = vec![in alloc; 0u8; BUFFER] else {
+    let Ok(mut buffer) = vec![in alloc; 0u8; READ_BUFFER] else {
         return Err(DocumentEnding::NoMemory);
     };
     read_lines(alloc, source, draft, lines, buffer.as_mut_slice())
@@ -74,24 +68,6 @@ fn read_lines<S: Source>(
             Err(_) => return Err(DocumentEnding::NoMemory),
         }
         taken += count as u64;
-    }
-}
-
-/// How much the next read may take: as much as goes into the buffer and up to the limit, and then one byte.
-fn room_after(taken: u64) -> usize
-    requires { taken ≤ 67108864 }
-    ensures some { 0 < result }
-    ensures buffer { result ≤ 65536 }
-    ensures limit { taken < 67108864 → taken + result ≤ 67108864 }
-    ensures one { taken ≡ 67108864 → result ≡ 1 }
-{
-    let left = MAX_INPUT - taken;
-    if left == 0 {
-        1
-    } else if left < BUFFER as u64 {
-        left as usize
-    } else {
-        BUFFER
     }
 }
 

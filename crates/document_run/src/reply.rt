@@ -14,14 +14,15 @@ ghost use Rattle.query_shape.specs.ShapeFault.{IsKnown};
 ghost use Rattle.query_shape.specs.declared.numbering.ShapeError.TheVariants as errors;
 ghost use Rattle.answer_core.specs.Binding.{IsBoundTo};
 ghost use Rattle.document_run.specs.Drafting.{HasReply, IsWhole};
-ghost use Rattle.document_run.specs.Sound.{IsSoundDocument};
+ghost use Rattle.document_run.specs.Sound.{IsSoundDocument, document_of};
 
 use crate::document::Document;
 use crate::facts::Facts;
 use answer_core::{Bound, answers, bind};
+use assert_tables::Assertions;
 use clash_report::first_clash;
 use completion::Completed;
-use dl_base::Ontology;
+use dl_base::{NameBook, Ontology, Query};
 use horn_closure::{Rules, Steps};
 use query_shape::ShapeError;
 use reply_text::Reply;
@@ -32,66 +33,97 @@ use std::sync::ledger::{Blank, Ledger};
 /// The reply to the document: the first clash where there is one, else the certain answers to its query, in order.
 pub fn document_reply<L: Ledger>(
     alloc: Global,
-    document: &Document,
+    document: Document,
     blank: Blank,
 ) -> Result<Reply, AllocError>
     requires name { blank.name ≡ L.name }
     requires parts { blank.parts ≡ L.parts }
     requires some { 0 < L.parts }
-    requires sound { IsSoundDocument document.now }
-    ensures { (lines : List (List ℕ)) → IsWhole lines document.now → IfOk result (HasReply lines document.now.ontology) }
+    requires sound { IsSoundDocument document }
+    ensures { (lines : List (List ℕ)) → IsWhole lines document → IfOk result (HasReply lines document.ontology) }
+{
+    let Document {
+        ontology,
+        facts,
+        asked,
+    } = document;
+    let Facts { individuals, rows } = facts;
+    let rows = rows.into_rows()?;
+    reply_by::<L>(alloc, &ontology, &individuals, &rows, &asked, blank)
+}
+
+/// The reply to the document of this ontology, these individuals, their rows and this query.
+fn reply_by<L: Ledger>(
+    alloc: Global,
+    ontology: &Ontology,
+    individuals: &NameBook,
+    rows: &Assertions,
+    asked: &Query,
+    blank: Blank,
+) -> Result<Reply, AllocError>
+    requires name { blank.name ≡ L.name }
+    requires parts { blank.parts ≡ L.parts }
+    requires some { 0 < L.parts }
+    requires sound { IsSoundDocument (document_of ontology.now individuals.now rows.now asked.now) }
+    ensures { (lines : List (List ℕ)) → IsWhole lines (document_of ontology.now individuals.now rows.now asked.now) → IfOk result (HasReply lines ontology.now) }
 {
     let mut steps: Steps<L> = Steps::new(blank);
-    let (graph, tables) = completed(alloc, &document.ontology, &document.facts, &mut steps)?;
-    let individuals = &document.facts.individuals;
-    let first = first_clash(alloc, &tables, &graph, &document.ontology, individuals)?;
+    let (graph, tables) = completed(alloc, ontology, rows, &mut steps)?;
+    let first = first_clash(alloc, &tables, &graph, ontology, individuals)?;
     match first {
         Some(clash) => Ok(Reply::Inconsistent(clash)),
-        None => document_answers(alloc, document, &tables),
+        None => certain_answers(alloc, ontology, individuals, asked, &tables),
     }
 }
 
-/// What the ontology derives from the facts, and the graph of its roles.
+/// What the ontology derives from the rows, and the graph of its roles.
 fn completed<L: Ledger>(
     alloc: Global,
     ontology: &Ontology,
-    facts: &Facts,
+    rows: &Assertions,
     steps: &mut Steps<L>,
 ) -> Result<(RoleGraph, Completed), AllocError>
-    requires { All (IsRowOf ontology.now) facts.now.rows }
+    requires { All (IsRowOf ontology.now) rows.now }
     ensures graph { IfOk result (λ made. IsGraphOf ontology.now made.0) }
-    ensures kept { IfOk result (λ made. (n : ℕ) → IsKept made.1.individuals n → IsNamed facts.now.rows n) }
-    ensures named { (rows : List NamedRow) → StandFor ontology.now facts.now.individuals facts.now.rows rows
-        → IfOk result (λ made. IsNamedCompletion ontology.now facts.now.individuals rows made.1) }
+    ensures kept { IfOk result (λ made. (n : ℕ) → IsKept made.1.individuals n → IsNamed rows.now n) }
+    ensures named { (names : List (List ℕ)) (these : List NamedRow) → StandFor ontology.now names rows.now these
+        → IfOk result (λ made. IsNamedCompletion ontology.now names these made.1) }
 {
     let rules = Rules::new(alloc, ontology)?;
     let mut scratch = rules.scratch(alloc)?;
     let graph = RoleGraph::new(alloc, &rules, &mut scratch, steps)?;
-    let tables = Completed::afresh(alloc, &rules, &graph, &facts.rows, &mut scratch, steps)?;
+    let tables = Completed::afresh(alloc, &rules, &graph, rows, &mut scratch, steps)?;
     Ok((graph, tables))
 }
 
-/// The certain answers to the document's query.
-fn document_answers(
+/// The certain answers to the query.
+fn certain_answers(
     alloc: Global,
-    document: &Document,
+    ontology: &Ontology,
+    individuals: &NameBook,
+    asked: &Query,
     tables: &Completed,
 ) -> Result<Reply, AllocError>
-    requires { All (IsKnown document.now.ontology) document.now.asked.atoms }
-    ensures { (rows : List NamedRow) → IsTerminology document.now.ontology → IsQuery document.now.asked → IsNamedCompletion document.now.ontology document.now.facts.individuals rows tables.now
-        → IfOk result (λ shown. (keys : List (List (List ℕ))) × AreAnswers document.now.ontology rows document.now.asked keys × (shown ≡ replies.Answers keys)) }
+    requires { All (IsKnown ontology.now) asked.now.atoms }
+    ensures { (rows : List NamedRow) → IsTerminology ontology.now → IsQuery asked.now → IsNamedCompletion ontology.now individuals.now rows tables.now
+        → IfOk result (λ shown. (keys : List (List (List ℕ))) × AreAnswers ontology.now rows asked.now keys × (shown ≡ replies.Answers keys)) }
 {
-    let bound = bound_query(alloc, document, tables)?;
-    let keys = answers(alloc, tables, &document.facts.individuals, &bound)?;
+    let bound = bound_query(alloc, ontology, asked, tables)?;
+    let keys = answers(alloc, tables, individuals, &bound)?;
     Ok(Reply::Answers(keys))
 }
 
-/// The document's query, whose names the ontology has.
-fn bound_query(alloc: Global, document: &Document, tables: &Completed) -> Result<Bound, AllocError>
-    requires { All (IsKnown document.now.ontology) document.now.asked.atoms }
-    ensures { IfOk result (IsBoundTo document.now.ontology document.now.asked) }
+/// The query, whose names the ontology has.
+fn bound_query(
+    alloc: Global,
+    ontology: &Ontology,
+    asked: &Query,
+    tables: &Completed,
+) -> Result<Bound, AllocError>
+    requires { All (IsKnown ontology.now) asked.now.atoms }
+    ensures { IfOk result (IsBoundTo ontology.now asked.now) }
 {
-    match bind(alloc, &document.asked, &document.ontology, tables) {
+    match bind(alloc, asked, ontology, tables) {
         Ok(bound) => Ok(bound),
         Err(error) => Err(want_of_memory(error)),
     }

@@ -2,7 +2,8 @@ use Rattle.std.proofs.Common.{◌≡◌, ◌<◌, ◌+◌, ◌++◌, ℕ, List, 
 use Rattle.std.proofs.lemmas.List.{take-append-le}
 use Rattle.document_run.specs.Run.{IsReading}
 use Rattle.document_run.specs.declared.ending.DocumentEnding.TheVariants as ending
-use Rattle.document_run.proofs.InputLemmas.{Taken, reading_nothing, stopped, stopped_behind, taken_more, ended, stops_final, within_room, length-piece, length-filled}
+use Rattle.document_run.proofs.InputLemmas.{Taken, reading_nothing, stopped, stopped_behind, taken_more, ended, stops_final}
+use Rattle.script_reader.proofs.InputLemmas.{length-filled, length-piece, within_room}
 use Rattle.document_run.proofs.SoundLemmas.{read_sound}
 use Rattle.document_run.proofs.input.read_lines.Goals as goal
 

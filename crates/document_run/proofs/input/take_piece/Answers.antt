@@ -1,7 +1,7 @@
 use Rattle.std.proofs.Common.{◌++◌, ℕ, List, [], length, take, arith, ap, sym, refl, ◌∙◌, subst, append_assoc, length-append}
 use Rattle.std.proofs.lemmas.List.{append-nil}
 use Rattle.document_run.specs.Run.{IsReading}
-use Rattle.document_run.proofs.InputLemmas.{split_more, nothing_left}
+use Rattle.script_reader.proofs.InputLemmas.{nothing_left, split_more}
 use Rattle.document_run.proofs.input.take_piece.Goals as goal
 
 pub loop-rest-init : goal.loop-rest-init

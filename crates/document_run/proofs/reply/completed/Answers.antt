@@ -8,6 +8,6 @@ pub returns-clause-kept : goal.returns-clause-kept
 returns-clause-kept g c = λ n. (c.in_ok-tables.ensures.completion.individuals.each n).0
 
 pub returns-clause-named : goal.returns-clause-named
-returns-clause-named g c = λ rows stand.
-    subst (λ (o : Terminology). IsNamedCompletion o c.args.facts.now.individuals rows c.in_ok-tables.tables) c.in_ok-rules.ensures
-    (c.in_ok-tables.ensures.named c.args.facts.now.individuals rows (subst (λ (o : Terminology). StandFor o c.args.facts.now.individuals c.args.facts.now.rows rows) (sym c.in_ok-rules.ensures) stand))
+returns-clause-named g c = λ names these stand.
+    subst (λ (o : Terminology). IsNamedCompletion o names these c.in_ok-tables.tables) c.in_ok-rules.ensures
+    (c.in_ok-tables.ensures.named names these (subst (λ (o : Terminology). StandFor o names c.args.rows.now these) (sym c.in_ok-rules.ensures) stand))

@@ -2,7 +2,7 @@ use Rattle.std.proofs.Common.{[], ◌∷◌, ◌++◌, sym, subst, ◌∙◌}
 use Rattle.query_shape.specs.ShapeFault.{IsShapeFault}
 use Rattle.query_shape.specs.declared.numbering.ShapeError.{ShapeError}
 use Rattle.document_run.specs.Drafting.{KeepsDraft}
-use Rattle.document_run.proofs.QueryLemmas.{shape_known}
+use Rattle.query_shape.proofs.NumberingLemmas.{shape_known}
 use Rattle.document_run.proofs.LineTaking.{query_late, query_concept, query_role, query_more}
 use Rattle.document_run.proofs.document.Partial.take_query.Goals as goal
 
