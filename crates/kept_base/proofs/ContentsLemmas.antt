@@ -23,7 +23,7 @@ use Rattle.kept_base.specs.declared.contents.Contents.{Contents}
 use Rattle.kept_base.specs.declared.contents.Outcome.{Outcome}
 use Rattle.kept_base.specs.declared.contents.Outcome.TheVariants as outcome
 use Rattle.kept_base.proofs.CommittedBases.{limit_refused}
-use Rattle.kept_base.proofs.LoadedBases.{rows_placed}
+use Rattle.completion.proofs.NamedLemmas.{rows_placed}
 
 module _ (c : Contents) (store : StoreState) (k : ℕ) (sound : IsSoundBase (base_of c store)) (x : Reasoned) (x_is : c.reasoner ≡ Some x) (changes : List NamedChange) (were : session_in c.sessions k ≡ Some changes) where
   -- the changes are few

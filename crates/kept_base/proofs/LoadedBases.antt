@@ -1,22 +1,17 @@
 -- A base that is loaded is sound, and stands for the state that the machine begins with.
-use Rattle.std.proofs.Common.{◌≡◌, ◌↔◌, inl, inr, ℕ, ◌+◌, ◌<◌, ◌≤◌, get_or, take, Result, Ok, Err, IfOk, List, [], ◌∷◌, length, All, Contains, Option, Some, None, refl, sym, ◌∙◌, ap, subst, arith}
-use Rattle.std.proofs.lemmas.List.Elements.{All-contains, All-contains_itself, All-more, All-weaker}
-use Rattle.std.proofs.lemmas.List.{take_all}
-use Rattle.assert_tables.specs.Rows.{Gains}
+use Rattle.std.proofs.Common.{◌≡◌, ◌↔◌, ℕ, Result, Ok, Err, IfOk, List, [], ◌∷◌, length, All, Contains, Option, Some, None, refl, sym, ◌∙◌, ap, subst, arith}
 use Rattle.completion.specs.Completed.{IsCompletionOf, IsFirstBook}
-use Rattle.std.proofs.lemmas.Option.{slice_get_within}
 use Rattle.completion.specs.Named.{IsNamedCompletion}
+use Rattle.completion.proofs.NamedLemmas.{rows_placed}
 use Rattle.completion.specs.Numbered.{IsLiveRole, IsRowOf}
 use Rattle.dl_base.specs.Completion.{IsLive}
-use Rattle.dl_base.specs.Numbers.{NumbersRow, StandFor}
+use Rattle.dl_base.specs.Numbers.{StandFor}
 use Rattle.dl_base.specs.Ontology.{Terminology}
 use Rattle.dl_base.specs.Query.{Question}
 use Rattle.dl_base.specs.declared.concept.Role.{Role}
 use Rattle.dl_base.specs.declared.row.NamedChange.{NamedChange}
 use Rattle.dl_base.specs.declared.row.NamedRow.{NamedRow}
-use Rattle.dl_base.specs.declared.row.NamedRow.TheVariants as named
 use Rattle.dl_base.specs.declared.row.Row.{Row}
-use Rattle.dl_base.specs.declared.row.Row.TheVariants as numbered
 use Rattle.gen_arena.specs.Store.{HandleStore, IsHandleStore, Names, Slot, empty_store}
 use Rattle.gen_arena.specs.declared.handle.Handle.{Handle}
 use Rattle.gen_arena.proofs.LawLemmas.{begins_as_store}
@@ -41,16 +36,6 @@ same_stand o names list rows these same stand = record {
   each = λ r there. (let found = stand.each r there in (found.0, (same found.0).1 found.1, found.2));
   only = λ n there. stand.only n ((same n).0 there);
 }
-
-row_placed : (o : Terminology) (names : List (List ℕ)) (r : NamedRow) (n : Row) → NumbersRow o names r n → IsRowOf o n
-row_placed o names (named.Concept c a) (numbered.Concept d k) is = slice_get_within o.concepts d c is.0
-row_placed o names (named.Role p a b) (numbered.Role q k m) is = slice_get_within o.roles q p is.0
-row_placed o names (named.Concept c a) (numbered.Role q k m) is = absurd is
-row_placed o names (named.Role p a b) (numbered.Concept d k) is = absurd is
-
--- rows that stand for some are of the ontology
-pub rows_placed : (o : Terminology) (names : List (List ℕ)) (rows : List Row) (these : List NamedRow) → StandFor o names rows these → All (IsRowOf o) rows
-rows_placed o names rows these stand = All-weaker (Contains rows) (IsRowOf o) (λ n there. (let found = stand.only n there in row_placed o names found.0 n found.2)) rows (All-contains_itself rows)
 
 none_there : (rows : List Row) → ((r : Row) → Contains rows r → ⊥) → rows ≡ []
 none_there [] absent = refl
@@ -200,22 +185,6 @@ module _ (l : Loaded) (rows : List Row) (same : (r : Row) → Contains rows r �
         generations_are = λ r. refl;
       },
     )
-
--- ---- the rows of a list
-
--- the first rows of the list are there, and no others than the list's
-pub record AreFirstRows (i : ℕ) (list rows : List Row) : Type 0 where
-  pub all : All (Contains rows) (take i list)
-  pub only : (r : Row) → Contains rows r → Contains list r
-
-pub first_rows_more : (list : List Row) (i : ℕ) (x : Row) (old new : List Row) → i < length list → x ≡ get_or list i x → Gains x old new → AreFirstRows i list old → AreFirstRows (i + 1) list new
-first_rows_more list i x old new inside is gains before = record {
-  all = All-more (Contains new) list i x inside (All-weaker (Contains old) (Contains new) (λ r there. (gains.each r).1 (inr there)) (take i list) before.all) (subst (Contains new) is ((gains.each x).1 (inl refl)));
-  only = λ r there. elim ((gains.each r).0 there) [ inl e ↦ subst (Contains list) (sym e) (i, inside, sym is) | inr was ↦ before.only r was ];
-}
-
-pub first_rows_all : (list : List Row) (i : ℕ) (rows : List Row) → length list ≤ i → AreFirstRows i list rows → (r : Row) → Contains rows r ↔ Contains list r
-first_rows_all list i rows end are r = (are.only r, λ there. All-contains (Contains rows) list r (subst (All (Contains rows)) (take_all i list end) are.all) there)
 
 -- ---- what is made of an ontology
 

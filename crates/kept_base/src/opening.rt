@@ -25,7 +25,7 @@ use assert_tables::Assertions;
 use base_engine::EndFault;
 use base_reasoner::Reasoner;
 use base_store::{Loaded, Store};
-use dl_base::{Ontology, Row};
+use dl_base::{Ontology, RowList};
 use gen_arena::Arena;
 use horn_closure::Steps;
 use host_io::Host;
@@ -115,7 +115,7 @@ impl Base {
             rows,
             ..
         } = loaded;
-        let rows = asserted(alloc, rows.items())?;
+        let rows = asserted(alloc, rows)?;
         let reasoner = reasoned(alloc, ontology, &rows)?;
         let sessions = Sessions::new(alloc)?;
         let contents = Contents {
@@ -133,14 +133,10 @@ impl Base {
 }
 
 /// The rows of the list.
-fn asserted(alloc: Global, list: &[Row]) -> Result<Assertions, AllocError>
-    ensures { IfOk result (λ rows. (r : AnyRow) → Contains rows r ↔ Contains list.now r) }
+fn asserted(alloc: Global, list: RowList) -> Result<Assertions, AllocError>
+    ensures { IfOk result (λ rows. (r : AnyRow) → Contains rows r ↔ Contains list r) }
 {
-    let mut rows = Assertions::new(alloc);
-    for row in list {
-        rows.add(*row)?;
-    }
-    Ok(rows)
+    Assertions::of_rows(alloc, list.into_vec())
 }
 
 /// What is derived from the rows, where there is an ontology.
