@@ -38,9 +38,9 @@ impl StatusLine {
 
 impl fmt::Display for StatusLine {
     ghost use Rattle.std.specs.Prelude.{Some};
-    ghost use Rattle.obda_cli.specs.StatusLine.{line_of};
+    ghost use Rattle.obda_cli.specs.StatusLine.{line_of_status};
 
-    ghost output = { λ line. Some (line_of line) };
+    ghost output = { λ line. Some (line_of_status line) };
 
     fn fmt<W: fmt::Write>(&self, f: &mut fmt::Formatter<W>) -> fmt::Result {
         match self.status {

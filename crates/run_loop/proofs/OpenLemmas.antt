@@ -12,8 +12,8 @@ use Rattle.base_engine.specs.Calls.{DiskKeeps, HoldsAtRest, IsSynced, LeavesKept
 use Rattle.base_engine.specs.State.{IsInitial, MachineState}
 use Rattle.base_engine.specs.declared.engine.EndFault.{EndFault}
 use Rattle.base_engine.specs.declared.engine.EndFault.TheVariants as end
-use Rattle.run_loop.specs.Serving.{Opening, HasLeft, Serves, IsFaultOf}
-use Rattle.run_loop.specs.Run.{input_limit, AreFirst, Ends, MayBeLeft, Ran, RanOpened, IsComplete, IsEndingOf}
+use Rattle.run_loop.specs.Serving.{Opening, HasLeft, Serves, IsFaultOfEnd}
+use Rattle.run_loop.specs.Run.{input_limit, AreFirstRead, Ends, MayBeLeft, Ran, RanOpened, IsComplete, IsEndingOf}
 use Rattle.run_loop.specs.declared.fault.Fault.{Fault}
 use Rattle.run_loop.specs.declared.fault.Fault.TheVariants as fault
 use Rattle.run_loop.specs.declared.ending.Ending.{Ending}
@@ -22,7 +22,7 @@ use Rattle.run_loop.proofs.ScriptLemmas.{nothing_held}
 use Rattle.run_loop.proofs.ByteLemmas.{first_open, open_requests}
 
 -- no request stands first in any bytes
-pub first_none : (bytes rest : List ℕ) → AreFirst bytes rest []
+pub first_none : (bytes rest : List ℕ) → AreFirstRead bytes rest []
 first_none bytes rest = record {
   ended = false;
   at_end = λ is. absurd cc;
@@ -120,8 +120,8 @@ cause_of e fault.Memory is print damaged = inl is
 cause_of e fault.Print is print damaged = absurd (print refl)
 cause_of e (fault.Damaged area at) is print damaged = absurd (damaged area at refl)
 
-pub ending_of : (given_up : EndFault) (f : Fault) (e : Ending) (at : ℕ) → IsFaultOf given_up f → IsEndingOf e f → (given_up ≡ end.Damaged 0 at) ⊎ (given_up ≡ end.DiskFault) ⊎ (given_up ≡ end.NoMemory)
+pub ending_of : (given_up : EndFault) (f : Fault) (e : Ending) (at : ℕ) → IsFaultOfEnd given_up f → IsEndingOf e f → (given_up ≡ end.Damaged 0 at) ⊎ (given_up ≡ end.DiskFault) ⊎ (given_up ≡ end.NoMemory)
     → (e ≡ ending.Damaged 0 at) ⊎ (e ≡ ending.DiskFault) ⊎ (e ≡ ending.NoMemory)
-ending_of given_up f e at of is (inl same) = inl (subst (IsEndingOf e) (subst (λ (x : EndFault). IsFaultOf x f) same of) is)
-ending_of given_up f e at of is (inr (inl same)) = inr (inl (subst (IsEndingOf e) (subst (λ (x : EndFault). IsFaultOf x f) same of) is))
-ending_of given_up f e at of is (inr (inr same)) = inr (inr (subst (IsEndingOf e) (subst (λ (x : EndFault). IsFaultOf x f) same of) is))
+ending_of given_up f e at of is (inl same) = inl (subst (IsEndingOf e) (subst (λ (x : EndFault). IsFaultOfEnd x f) same of) is)
+ending_of given_up f e at of is (inr (inl same)) = inr (inl (subst (IsEndingOf e) (subst (λ (x : EndFault). IsFaultOfEnd x f) same of) is))
+ending_of given_up f e at of is (inr (inr same)) = inr (inr (subst (IsEndingOf e) (subst (λ (x : EndFault). IsFaultOfEnd x f) same of) is))

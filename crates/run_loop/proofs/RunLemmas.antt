@@ -12,7 +12,7 @@ use Rattle.script_reader.specs.declared.request.Request.{Request}
 use Rattle.base_engine.specs.State.{MachineState}
 use Rattle.run_loop.specs.Serving.{Opening, HasLeft, Serves}
 use Rattle.run_loop.specs.Taking.{StandFirst, TakesBytes, EndedAt, TakesAllOf}
-use Rattle.run_loop.specs.Run.{input_limit, RepliedTo, AreFirst, Stops, Ends, MayBeLeft, Ran, IsEndingOf, FinishesAs}
+use Rattle.run_loop.specs.Run.{input_limit, RepliedTo, AreFirstRead, Stops, Ends, MayBeLeft, Ran, IsEndingOf, FinishesAs}
 use Rattle.run_loop.specs.declared.fault.Fault.{Fault}
 use Rattle.run_loop.specs.declared.fault.Fault.TheVariants as fault
 use Rattle.run_loop.specs.declared.ending.Ending.{Ending}
@@ -47,7 +47,7 @@ module _ {H : Type 0} (disk : H → Option Disk) (printed : H → Option (List �
       (λ l has. record { requests = t.requests; first = record { ended = false; at_end = λ no. absurd cc; first = first_open bytes more false t.requests t.are }; has = has })
 
   module _ (a : Opening) (bytes rest : List ℕ) (ended : Bool) (f : Fault) (host : H) (t : EndedAt disk printed clock might start a bytes ended f host) (at_end : ended ≡ true → rest ≡ []) (few : length bytes ≤ input_limit) where
-    stops_first : AreFirst bytes rest t.requests
+    stops_first : AreFirstRead bytes rest t.requests
     stops_first = record { ended = ended; at_end = at_end; first = t.first }
 
     stops : Stops f a bytes rest (disk host) (printed host)

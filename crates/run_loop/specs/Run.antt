@@ -8,7 +8,7 @@ use Rattle.script_reader.specs.Requests.{AreRequests}
 use Rattle.script_reader.specs.declared.request.Request.{Request}
 use Rattle.base_engine.specs.Calls.{IsSynced, LeavesKept, StillKeeps}
 use Rattle.base_engine.specs.State.{MachineState}
-use Rattle.run_loop.specs.Serving.{HasLeft, LeftBy, Opening, Replied}
+use Rattle.run_loop.specs.Serving.{HasLeft, LeftBy, Opening, AreReplied}
 use Rattle.run_loop.specs.Taking.{EndedAt, StandFirst, TakesAllOf}
 use Rattle.run_loop.specs.declared.ending.Ending.{Ending}
 use Rattle.run_loop.specs.declared.ending.Ending.TheVariants as ending
@@ -25,10 +25,10 @@ pub record RepliedTo (a : Opening) (bytes : List ℕ) (ended : Bool) (disk : Opt
   pub requests : List Request
   pub are : AreRequests bytes ended requests
   pub state : MachineState
-  pub replied : Replied a requests state disk printed
+  pub replied : AreReplied a requests state disk printed
 
 -- These requests stand first in what was read of an input. It has ended only where nothing of it is left.
-pub record AreFirst (read rest : List ℕ) (requests : List Request) : Type 0 where
+pub record AreFirstRead (read rest : List ℕ) (requests : List Request) : Type 0 where
   pub ended : Bool
   pub at_end : ended ≡ true → rest ≡ []
   pub first : StandFirst read ended requests
@@ -37,7 +37,7 @@ pub record AreFirst (read rest : List ℕ) (requests : List Request) : Type 0 wh
 pub record Stops (f : Fault) (a : Opening) (read rest : List ℕ) (disk : Option Disk) (printed : Option (List ℕ)) : Type 0 where
   pub few : length read ≤ input_limit
   pub requests : List Request
-  pub first : AreFirst read rest requests
+  pub first : AreFirstRead read rest requests
   pub left : LeftBy f a requests disk printed
 
 -- what each ending says of the bytes that were read, of what is printed and of what the disk keeps
@@ -70,7 +70,7 @@ pub record TakesInput (e : Ending) (input : List ℕ) (left : Option (List ℕ))
 -- a stop left the machine between two of the requests that were read, or at one
 pub record MayBeLeft (a : Opening) (read rest : List ℕ) (left : Left) : Type 0 where
   pub requests : List Request
-  pub first : AreFirst read rest requests
+  pub first : AreFirstRead read rest requests
   pub has : HasLeft a requests left
 
 module _ {H : Type 0} (disk : H → Option Disk) (printed : H → Option (List ℕ)) (clock : H → ℕ) (might : H → ℕ → Left → Type 0) where

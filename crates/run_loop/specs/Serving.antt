@@ -66,15 +66,15 @@ pub record Stopped (a : Opening) (requests : List Request) (area printed : List 
   pub now : ((part ≡ []) × KeepsHistory area state.history) ⊎ IsUnderWay state rest part area
 
 -- a stop before the first request: a state of the machine need not be there
-pub record AtOpening (a : Opening) (area printed : List ℕ) : Type 0 where
+pub record StopsAtOpening (a : Opening) (area printed : List ℕ) : Type 0 where
   pub shown : printed ≡ a.before
   pub keeps : KeepsHistory area a.history
 
 abbrev pub HasLeft : Opening → List Request → Left → Type 0
-HasLeft a requests left = (left.second ≡ a.second) × (AtOpening a left.first left.printed ⊎ Stopped a requests left.first left.printed)
+HasLeft a requests left = (left.second ≡ a.second) × (StopsAtOpening a left.first left.printed ⊎ Stopped a requests left.first left.printed)
 
 -- these requests were replied to, whole, and the disk keeps the history behind them
-pub record Replied (a : Opening) (requests : List Request) (s : MachineState) (disk : Option Disk) (printed : Option (List ℕ)) : Type 0 where
+pub record AreReplied (a : Opening) (requests : List Request) (s : MachineState) (disk : Option Disk) (printed : Option (List ℕ)) : Type 0 where
   pub shows : ShowsReplies a requests s printed
   pub d : Disk
   pub told : disk ≡ Some d
@@ -89,7 +89,7 @@ pub record LeftByMemory (a : Opening) (requests : List Request) (disk : Option D
   pub rest : List Request
   pub parts : requests ≡ first ++ rest
   pub state : MachineState
-  pub replied : Replied a first state disk printed
+  pub replied : AreReplied a first state disk printed
 
 -- printing failed: what is there is what a stop leaves
 pub record LeftByPrint (a : Opening) (requests : List Request) (disk : Option Disk) (printed : Option (List ℕ)) : Type 0 where
@@ -116,17 +116,17 @@ LeftBy fault.Disk a requests disk printed = LeftByDisk a requests printed
 LeftBy (fault.Damaged area at) a requests disk printed = ⊥
 
 -- the fault of a base that was given up
-abbrev pub IsFaultOf : EndFault → Fault → Type 0
-IsFaultOf end.DiskFault f = f ≡ fault.Disk
-IsFaultOf (end.Damaged area at) f = f ≡ fault.Damaged area at
-IsFaultOf end.NoMemory f = f ≡ fault.Memory
+abbrev pub IsFaultOfEnd : EndFault → Fault → Type 0
+IsFaultOfEnd end.DiskFault f = f ≡ fault.Disk
+IsFaultOfEnd (end.Damaged area at) f = f ≡ fault.Damaged area at
+IsFaultOfEnd end.NoMemory f = f ≡ fault.Memory
 
 -- ---- the same of a host, since a start
 
 module _ {H : Type 0} (disk : H → Option Disk) (printed : H → Option (List ℕ)) (clock : H → ℕ) (might : H → ℕ → Left → Type 0) (start : H) where
   -- so far these requests were replied to, and the machine is in this state
   pub record Serves (a : Opening) (requests : List Request) (s : MachineState) (host : H) : Type 0 where
-    pub replied : Replied a requests s (disk host) (printed host)
+    pub replied : AreReplied a requests s (disk host) (printed host)
     pub moments : LeavesOnly clock might start host (HasLeft a requests)
 
   -- the run ended within these requests

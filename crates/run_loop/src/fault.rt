@@ -1,6 +1,6 @@
 //! Why a run ends before its input does.
 ghost use Rattle.std.specs.Prelude.{◌≡◌, ℕ};
-ghost use Rattle.run_loop.specs.Serving.{IsFaultOf};
+ghost use Rattle.run_loop.specs.Serving.{IsFaultOfEnd};
 
 use base_engine::EndFault;
 
@@ -19,7 +19,7 @@ pub enum Fault {
 
 /// The fault of a base that was given up.
 pub fn fault_of(end: EndFault) -> Fault
-    ensures of { IsFaultOf end result }
+    ensures of { IsFaultOfEnd end result }
     ensures disk { result ≡ Fault.Disk → end ≡ EndFault.DiskFault }
     ensures memory { result ≡ Fault.Memory → end ≡ EndFault.NoMemory }
     ensures damaged { (area at : ℕ) → result ≡ Fault.Damaged area at → end ≡ EndFault.Damaged area at }

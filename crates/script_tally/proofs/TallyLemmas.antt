@@ -13,11 +13,11 @@ use Rattle.base_engine.specs.Steps.{StepsTo}
 use Rattle.run_loop.specs.Serving.{texts}
 use Rattle.run_loop.proofs.RequestLemmas.{replies_more, texts_more}
 use Rattle.script_tally.specs.Gathering.{GathersAll}
-use Rattle.script_tally.specs.Tallying.{Adds, Counted, Tallies, answers_in, tally_of}
+use Rattle.script_tally.specs.Tallying.{CountsReply, Counted, Tallies, answers_in, tally_of}
 use Rattle.script_tally.specs.declared.counting.Tally.{Tally}
 
 -- the tally of the replies with one more
-pub tally_more : (rs : List Reply) (r : Reply) (old new : Tally) → old ≡ tally_of rs → Adds old r new → new ≡ tally_of (rs ++ r ∷ [])
+pub tally_more : (rs : List Reply) (r : Reply) (old new : Tally) → old ≡ tally_of rs → CountsReply old r new → new ≡ tally_of (rs ++ r ∷ [])
 tally_more rs r old new is adds =
     let replies = adds.replies ∙ ap (λ (t : Tally). t.replies + 1) is ∙ sym (length-append rs (r ∷ [])) in
     let answers = adds.answers ∙ ap (λ (t : Tally). t.answers + answers_in r) is ∙ sym (sum_by_push answers_in rs r) in
@@ -27,7 +27,7 @@ tally_more rs r old new is adds =
 
 -- one request more was replied to
 pub counted_more : (stands next : MachineState → Type 0) (h : History) (requests : List Request) (q : Request) (r : Reply) (disk disk' : Option Disk) (old new : Tally) (c : Counted stands h requests disk old) (t : MachineState) → StepsTo c.state q r t → next t → DiskKeeps disk' t.history
-    → StaysTold disk disk' → Adds old r new → Counted next h (requests ++ q ∷ []) disk' new
+    → StaysTold disk disk' → CountsReply old r new → Counted next h (requests ++ q ∷ []) disk' new
 counted_more stands next h requests q r disk disk' old new c t step stands_for kept told adds =
     let now = told.told c.d c.told in
     record {

@@ -45,13 +45,13 @@ pub record Tallies (h : History) (script : List ℕ) (disk : Option Disk) (t : T
 -- ---- inside a tally
 
 -- one reply more
-pub record Adds (old : Tally) (r : Reply) (new : Tally) : Type 0 where
+pub record CountsReply (old : Tally) (r : Reply) (new : Tally) : Type 0 where
   pub replies : new.replies ≡ old.replies + 1
   pub answers : new.answers ≡ old.answers + answers_in r
   pub bytes : new.bytes ≡ old.bytes + length (text_of_reply r)
 
 -- a reply has less than 2^64 answers and bytes, as no list and no text is longer
-pub record IsWithin (t : Tally) : Type 0 where
+pub record CountsFit (t : Tally) : Type 0 where
   pub answers : t.answers ≤ t.replies * 2 ^ 64
   pub bytes : t.bytes ≤ t.replies * 2 ^ 64
 

@@ -1,6 +1,6 @@
 //! Replies, counted.
 ghost use Rattle.std.specs.Prelude.{◌≡◌, ◌<◌, [], IfOk};
-ghost use Rattle.script_tally.specs.Tallying.{Adds, IsWithin, answers_in, tally_of};
+ghost use Rattle.script_tally.specs.Tallying.{CountsReply, CountsFit, answers_in, tally_of};
 
 use reply_text::{Reply, reply_bytes};
 use std::alloc::AllocError;
@@ -31,9 +31,9 @@ impl Tally {
     /// The tally with one reply more. Its text is written into the buffer.
     pub(crate) fn with(self, reply: &Reply, text: &mut Vec<u8>) -> Result<Tally, AllocError>
         requires few { self.replies < 100000000 }
-        requires within { IsWithin self }
-        ensures adds { IfOk result (Adds self reply.now) }
-        ensures within { IfOk result IsWithin }
+        requires within { CountsFit self }
+        ensures adds { IfOk result (CountsReply self reply.now) }
+        ensures within { IfOk result CountsFit }
     {
         text.clear();
         reply_bytes(reply, text)?;

@@ -7,7 +7,7 @@ ghost use Rattle.base_store.specs.History.{History};
 ghost use Rattle.script_reader.specs.declared.request.Request.{Request as Asked};
 ghost use Rattle.base_engine.specs.Calls.{HasKeptState, IsDamage, SecondStays, StaysTold};
 ghost use Rattle.base_engine.specs.Requests.{IsGiven};
-ghost use Rattle.script_tally.specs.Tallying.{Counted, IsWithin, Tallies};
+ghost use Rattle.script_tally.specs.Tallying.{Counted, CountsFit, Tallies};
 
 use crate::counting::Tally;
 use crate::gathering::requests_of;
@@ -107,14 +107,14 @@ fn tally_request<E: Engine, H: Host, L: Ledger>(
     requires ready { HasKeptState (E.stands engine) (H.disk host.old) }
     requires taken { E.taken engine < 100000000 }
     requires few { tally.replies < 100000000 }
-    requires within { IsWithin tally }
+    requires within { CountsFit tally }
     requires given { IsGiven request }
     ensures counts { (h : History) (requests : List Asked) → Counted (E.stands engine) h requests (H.disk host.old) tally
         → IfOk result (λ next. Counted (E.stands next.0) h (requests ++ request ∷ []) (H.disk host.new) next.1) }
     ensures ready { IfOk result (λ next. HasKeptState (E.stands next.0) (H.disk host.new)) }
     ensures one { IfOk result (λ next. E.taken next.0 ≤ E.taken engine + 1) }
     ensures replies { IfOk result (λ next. next.1.replies ≡ tally.replies + 1) }
-    ensures within { IfOk result (λ next. IsWithin next.1) }
+    ensures within { IfOk result (λ next. CountsFit next.1) }
     ensures undamaged { ForSome (H.disk host.old) (λ d. (area at : ℕ) → result ≡ Err (EndFault.Damaged area at) → ⊥) }
     ensures disk_fault { IsErrOf result EndFault.DiskFault → Rose (H.disk_faults host.old) (H.disk_faults host.new) }
     ensures stays { IsErrOf result EndFault.DiskFault ⊎ (H.disk_faults host.new ≡ H.disk_faults host.old) }

@@ -3,7 +3,7 @@ use Rattle.std.proofs.lemmas.List.{append-nil}
 use Rattle.std.specs.Vec.Iter.{into_iter_items}
 use Rattle.script_reader.specs.declared.request.Request.{Request}
 use Rattle.run_loop.proofs.RequestLemmas.{stays_on, stays_same}
-use Rattle.script_tally.specs.Tallying.{Counted, IsWithin}
+use Rattle.script_tally.specs.Tallying.{Counted, CountsFit}
 use Rattle.script_tally.specs.declared.counting.Tally.{Tally}
 use Rattle.script_tally.proofs.TallyLemmas.{nothing_of_length, right_of, second_on, second_same}
 use Rattle.script_tally.proofs.tallying.tally_requests.Goals as goal
@@ -18,7 +18,7 @@ loop-request-init g c =
       ready = c.requires.ready;
       taken = omega (arith, c.requires.none, ap length all);
       replies = omega (arith, ap (λ (t : Tally). t.replies) none, ap length all);
-      within = subst IsWithin (sym none) (record { answers = omega arith; bytes = omega arith });
+      within = subst CountsFit (sym none) (record { answers = omega arith; bytes = omega arith });
       told = stays_same (h.disk c.args.host.now);
       second = second_same (h.disk c.args.host.now);
       counted = omega arith;

@@ -3,7 +3,7 @@ use Rattle.std.specs.Vec.Iter.{into_iter_items}
 use Rattle.base_store.specs.History.{History}
 use Rattle.script_reader.specs.declared.request.Request.{Request}
 use Rattle.base_engine.specs.Calls.{HasKeptState, SecondStays, StaysTold}
-use Rattle.script_tally.specs.Tallying.{Counted, IsWithin}
+use Rattle.script_tally.specs.Tallying.{Counted, CountsFit}
 use Rattle.script_tally.proofs.tallying.tally_requests.Given as goal
 
 abbrev pub invariant-loop-request : goal.invariant-loop-request
@@ -16,7 +16,7 @@ invariant-loop-request g l =
       ready : HasKeptState (e.stands l.engine) (h.disk l.host);
       taken : e.taken l.engine + length (into_iter_items l.request-iterator) ≤ length l.fn.requests;
       replies : l.tally.replies + length (into_iter_items l.request-iterator) ≤ length l.fn.requests;
-      within : IsWithin l.tally;
+      within : CountsFit l.tally;
       told : StaysTold (h.disk l.fn.host) (h.disk l.host);
       second : SecondStays (h.disk l.fn.host) (h.disk l.host);
       counted : l.fn.steps ≤ l.steps;
