@@ -103,9 +103,14 @@ fn rows_in_any_order_are_put_in_order(rt: HostRuntime) -> Result<(), Fail> {
     assert_eq!(rt; of_five.next(), Some(role(1, 9, 5)));
     assert_eq!(rt; of_five.next(), None);
     assert_eq!(rt; of_five.next(), None);
-    assert_eq!(rt; base.rows_naming(7).count(), 1);
-    assert_eq!(rt; base.rows_naming(u32::MAX).count(), 1);
-    assert_eq!(rt; base.rows_naming(6).count(), 0);
+    let mut of_seven = base.rows_naming(7);
+    assert_eq!(rt; of_seven.next(), Some(role(2, 7, 7)));
+    assert_eq!(rt; of_seven.next(), None);
+    assert_eq!(rt;
+        base.rows_naming(u32::MAX).next(),
+        Some(concept(3, u32::MAX))
+    );
+    assert_eq!(rt; base.rows_naming(6).next(), None);
     let none = Assertions::of_rows(rt.alloc(), Vec::new(rt.alloc()))?;
     assert_eq!(rt; none.rows(), 0);
     assert_eq!(rt; none.individuals(), 0);
