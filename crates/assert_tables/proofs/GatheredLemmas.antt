@@ -1,25 +1,26 @@
 -- Rows that are gathered, and put in order together.
-use Rattle.std.proofs.Common.{◌≡◌, ◌≢◌, ◌↔◌, ℕ, suc, ◌+◌, ◌<◌, ◌≤◌, max, ◌⊎◌, inl, inr, Bool, true, false, ◌==◌, IsTrue, IsPermutation, List, [], ◌∷◌, ◌++◌, length, get_or, take, All, Contains, refl, sym, ◌∙◌, ap, subst, arith}
+use Rattle.std.proofs.Common.{◌≡◌, ◌↔◌, ℕ, suc, ◌+◌, ◌<◌, ◌≤◌, max, ◌⊎◌, inl, inr, Bool, true, false, ◌==◌, IsTrue, List, [], ◌∷◌, ◌++◌, length, get_or, take, map, All, Contains, refl, sym, ◌∙◌, ap, subst, arith}
 use Rattle.std.specs.BTreeSet.{BTreeSet, IsFromIterResult}
 use Rattle.std.specs.declared.cmp.Ordering.{Ordering}
-use Rattle.std.specs.declared.cmp.Ordering.TheVariants.{Less, Equal, Greater}
+use Rattle.std.specs.declared.cmp.Ordering.TheVariants.{Less}
 use Rattle.std.specs.List.Sorted.{IsStrictlySortedBy}
 use Rattle.std.specs.Ordering.{nat_cmp}
 use Rattle.std.proofs.lemmas.Bool.Decides.{nat_tests}
 use Rattle.std.proofs.lemmas.Cmp.{nat_cmp_total}
 use Rattle.std.proofs.lemmas.List.{take_all}
 use Rattle.std.proofs.lemmas.List.Elements.{All-contains, All-more, All-weaker, Contains-append_left, Contains-push}
-use Rattle.std.proofs.lemmas.List.Sorted.{Contains-permutation, IsPermutation-sym}
 use Rattle.std.proofs.lemmas.Map.Views.{btree_set_contains_from_list}
 use Rattle.dl_base.specs.Rows.{numbered_row_cmp}
 use Rattle.dl_base.specs.contracts.row.RowOrd.TheImpl.{cmp-value as row_order}
 use Rattle.dl_base.specs.declared.row.Row.{Row}
-use Rattle.dl_base.proofs.InOrder.{insert_adds, insert_most, insert_rises}
+use Rattle.dl_base.proofs.InOrder.{insert_adds, insert_most, insert_rises, rising_distinct}
+use Rattle.dl_base.proofs.PlaceLemmas.{map_contains, map_from}
 use Rattle.dl_base.proofs.RisingLemmas.{Adds, all_contains, contains_cases, contains_first, contains_later, nat_same, same_rising}
 use Rattle.dl_base.proofs.RowLemmas.{contains_cut, keys_by_numbers, numbered_same, numbered_total}
-use Rattle.assert_tables.specs.Gathered.{AreAdded, AreBeside, AreGathered, AreNamedBy, NameBelow, Settles, with_rows}
+use Rattle.assert_tables.specs.Gathered.{AreAdded, AreBeside, AreGathered, NameBelow, Settles, with_rows}
+use Rattle.assert_tables.specs.Listing.{IsListOf}
 use Rattle.assert_tables.specs.Mentions.{AreMentions, rows_of}
-use Rattle.assert_tables.specs.Rows.{AreCounts, AreRisingRows, Gains, IsNamedIn, Loses, first_of, individuals_of, last_of}
+use Rattle.assert_tables.specs.Rows.{AreRisingRows, Gains, IsNamedIn, Loses, first_of, individuals_of, last_of}
 use Rattle.assert_tables.specs.contracts.row_set.MentionOrd.TheImpl.{cmp-value as mention_order}
 use Rattle.assert_tables.specs.contracts.row_set.MentionOrd.TheImpl.Laws as mention_laws
 use Rattle.assert_tables.specs.declared.row_set.Mention.{Mention}
@@ -156,12 +157,19 @@ lost_gathered rows new waiting above r are loses = record {
 
 -- ---- rows and individuals of a list, all at once
 
--- individuals in order that the rows name are their individuals
-pub named_all : (rows list : List Row) (names : List ℕ) → ((r : Row) → Contains rows r ↔ Contains list r) → IsStrictlySortedBy nat_cmp names → AreNamedBy list names → names ≡ individuals_of rows
-named_all rows list names same rises named =
-    same_rising nat_cmp nat_cmp_total nat_same names (individuals_of rows) rises (individuals_rise rows)
-    (λ a c. let w : (r : Row) × Contains list r × IsNamedIn a r = (named a).0 c in named_individual rows w.0 a ((same w.0).1 w.1) w.2)
-    (λ a c. let w : (r : Row) × Contains rows r × IsNamedIn a r = individual_named rows a c in (named a).1 (w.0, (same w.0).0 w.1, w.2))
+-- individuals in order that are those of the mentions are the ones that the rows name
+pub named_all : (list rows : List Row) (ms : List Mention) (names ordered : List ℕ) → AreBeside list ms → ((r : Row) → Contains rows r ↔ Contains list r) → names ≡ map (λ m. m.individual) ms
+    → IsStrictlySortedBy nat_cmp ordered → ((a : ℕ) → Contains ordered a ↔ Contains names a) → ordered ≡ individuals_of rows
+named_all list rows ms names ordered each same is rises same_names =
+    same_rising nat_cmp nat_cmp_total nat_same ordered (individuals_of rows) rises (individuals_rise rows)
+    (λ a c.
+    let found = map_from (λ (m : Mention). m.individual) ms a (subst (λ (xs : List ℕ). Contains xs a) is ((same_names a).0 c)) in
+    let there = (each found.0).0 found.1 in
+    named_individual rows found.0.row a ((same found.0.row).1 there.0) (subst (λ (b : ℕ). IsNamedIn b found.0.row) (sym found.2) there.1))
+    (λ a c.
+    let w : (r : Row) × Contains rows r × IsNamedIn a r = individual_named rows a c in
+    let there = (each (mention a w.0)).1 ((same w.0).0 w.1, w.2) in
+    (same_names a).1 (subst (λ (xs : List ℕ). Contains xs a) (sym is) (map_contains (λ (m : Mention). m.individual) ms (mention a w.0) there)))
 
 module _ (list : List Row) (ms : List Mention) (made : BTreeSet Mention) (each : AreBeside list ms) (from : IsFromIterResult mention_order.it ms made) where
   made_each : (m : Mention) → Contains made.keys m ↔ Contains ms m
@@ -182,10 +190,10 @@ module _ (list : List Row) (ms : List Mention) (made : BTreeSet Mention) (each :
     λ c. mention_counts made.keys (mention (first_of r) r) ((made_each (mention (first_of r) r)).1 ((each (mention (first_of r) r)).1 (c, inl refl))),
   )
 
-pub beside_permuted : (list : List Row) (ms new : List Mention) → IsPermutation ms new → AreBeside list ms → AreBeside list new
-beside_permuted list ms new moved each = λ m. (
-  λ c. (each m).0 (Contains-permutation _ _ m (IsPermutation-sym _ _ moved) c),
-  λ p. Contains-permutation _ _ m moved ((each m).1 p),
+pub beside_same : (list : List Row) (ms new : List Mention) → ((m : Mention) → Contains new m ↔ Contains ms m) → AreBeside list ms → AreBeside list new
+beside_same list ms new same each = λ m. (
+  λ c. (each m).0 ((same m).0 c),
+  λ p. (same m).1 ((each m).1 p),
 )
 
 -- rows in order are the rising list of them
@@ -198,15 +206,17 @@ list_is list set rises set_rises same =
     (λ r c. (same r).1 c)
     (λ r c. (same r).0 c)
 
-pub counted : (list set : List Row) (names ordered : List ℕ) → IsStrictlySortedBy row_order.it list → AreRisingRows set → ((r : Row) → Contains set r ↔ Contains list r) → AreNamedBy list names
-    → IsStrictlySortedBy nat_cmp ordered → ((a : ℕ) → Contains ordered a ↔ Contains names a) → AreCounts set (length list) (length ordered)
-counted list set names ordered rises set_rises same named ordered_rises same_names = record {
-  rising = set_rises;
-  rows_are = ap (λ (rows : List Row). length rows) (list_is list set rises set_rises same);
-  individuals_are = ap (λ (xs : List ℕ). length xs) (named_all set list ordered same ordered_rises (λ a. (
-    λ c. (named a).0 ((same_names a).0 c),
-    λ w. (same_names a).1 ((named a).1 w),
-  )));
+pub as_many : (list set : List Row) → IsStrictlySortedBy row_order.it list → AreRisingRows set → ((r : Row) → Contains set r ↔ Contains list r) → length list ≡ length set
+as_many list set rises set_rises same = ap (λ (rows : List Row). length rows) (list_is list set rises set_rises same)
+
+-- and where none were settled they are listed
+pub all_listed : (settled waiting list : List Row) → length settled ≡ 0 → IsStrictlySortedBy row_order.it list → ((r : Row) → Contains list r ↔ Contains waiting r) → IsListOf (with_rows settled waiting) list
+all_listed settled waiting list none rises same = record {
+  once = rising_distinct numbered_row_cmp numbered_total numbered_same list (subst (λ (c : Row → Row → Ordering). IsStrictlySortedBy c list) by_numbers rises);
+  each = λ r. (
+    λ c. (gathered_each settled waiting r).1 (inl ((same r).0 c)),
+    λ c. elim ((gathered_each settled waiting r).0 c) [ inl w ↦ (same r).1 w | inr old ↦ absurd (omega (arith, old.1, none)) ],
+  );
 }
 
 -- ---- what is waiting
@@ -268,49 +278,6 @@ beside_all list i ms end are m = (
       elim p.1 [
         | inl e ↦ subst (λ (a : ℕ). Contains ms (mention a m.row)) (sym e) both.0
         | inr e ↦ subst (λ (a : ℕ). Contains ms (mention a m.row)) (sym e) both.1
-      ],
-)
-
--- each of the first rows has both ends among the names, and all names are of the list
-pub record AreFirstNames (i : ℕ) (list : List Row) (names : List ℕ) : Type 0 where
-  pub all : All (λ r. Contains names (first_of r) × Contains names (last_of r)) (take i list)
-  pub only : (a : ℕ) → Contains names a → (r : Row) × Contains list r × IsNamedIn a r
-
-pub names_more : (list : List Row) (i : ℕ) (x : Row) (names mid new : List ℕ) → i < length list → x ≡ get_or list i x → mid ≡ names ++ first_of x ∷ [] → new ≡ mid ++ last_of x ∷ []
-    → AreFirstNames i list names → AreFirstNames (i + 1) list new
-names_more list i x names mid new inside is one two before =
-    let stays : (a : ℕ) → Contains names a → Contains new a = λ a c.
-    subst (λ (xs : List ℕ). Contains xs a) (sym two) (Contains-append_left mid (last_of x ∷ []) a
-    (subst (λ (xs : List ℕ). Contains xs a) (sym one) (Contains-append_left names (first_of x ∷ []) a c))) in
-    let first : Contains new (first_of x) =
-    subst (λ (xs : List ℕ). Contains xs (first_of x)) (sym two) (Contains-append_left mid (last_of x ∷ []) (first_of x)
-    (subst (λ (xs : List ℕ). Contains xs (first_of x)) (sym one) (Contains-push names (first_of x)))) in
-    let last : Contains new (last_of x) = subst (λ (xs : List ℕ). Contains xs (last_of x)) (sym two) (Contains-push mid (last_of x)) in
-    let there : Contains list x = (i, inside, sym is) in
-    record {
-      all = All-more (λ r. Contains new (first_of r) × Contains new (last_of r)) list i x inside
-          (All-weaker (λ r. Contains names (first_of r) × Contains names (last_of r)) (λ r. Contains new (first_of r) × Contains new (last_of r))
-          (λ r both. (stays (first_of r) both.0, stays (last_of r) both.1)) (take i list) before.all)
-          (subst (λ (r : Row). Contains new (first_of r) × Contains new (last_of r)) is (first, last));
-      only = λ a c. elim (contains_cut mid (last_of x) a (subst (λ (xs : List ℕ). Contains xs a) two c)) [
-        | inl e ↦ (x, there, inr e)
-        | inr d ↦ elim (contains_cut names (first_of x) a (subst (λ (xs : List ℕ). Contains xs a) one d)) [
-          | inl e ↦ (x, there, inl e)
-          | inr o ↦ before.only a o
-        ]
-      ];
-    }
-
-pub names_all : (list : List Row) (i : ℕ) (names : List ℕ) → length list ≤ i → AreFirstNames i list names → AreNamedBy list names
-names_all list i names end are a = (
-  are.only a,
-  λ w.
-      let both : Contains names (first_of w.0) × Contains names (last_of w.0) =
-      All-contains (λ r. Contains names (first_of r) × Contains names (last_of r)) list w.0
-      (subst (All (λ r. Contains names (first_of r) × Contains names (last_of r))) (take_all i list end) are.all) w.1 in
-      elim w.2 [
-        | inl e ↦ subst (Contains names) (sym e) both.0
-        | inr e ↦ subst (Contains names) (sym e) both.1
       ],
 )
 

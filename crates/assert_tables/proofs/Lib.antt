@@ -5,3 +5,4 @@ pub mod SearchLemmas
 pub mod LeftLemmas
 pub mod NamingLemmas
 pub mod GatheredLemmas
+pub mod ListedRows

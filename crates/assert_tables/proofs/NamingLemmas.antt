@@ -1,25 +1,25 @@
 -- The rows that name an individual, as the front of mentions in order.
-use Rattle.std.proofs.Common.{◌≡◌, ◌≢◌, ◌↔◌, ℕ, ◌≤◌, ◌⊎◌, inl, inr, Bool, true, false, cond, List, [], ◌∷◌, ◌++◌, ◌==◌, Contains, filter, None, refl, sym, ◌∙◌, ap, subst, arith}
-use Rattle.std.specs.Prelude.{if◌then◌else◌, ◌&&◌, not}
+use Rattle.std.proofs.Common.{◌≡◌, ◌≢◌, ℕ, ◌≤◌, inl, inr, Bool, true, false, List, [], ◌∷◌, ◌++◌, ◌==◌, Contains, filter, None, refl, sym, ◌∙◌, ap, subst, arith}
+use Rattle.std.specs.Prelude.{if◌then◌else◌, ◌&&◌}
 use Rattle.std.specs.BTreeMap.Range.{range_contains}
 use Rattle.std.specs.declared.cmp.Ordering.{Ordering}
 use Rattle.std.specs.declared.cmp.Ordering.TheVariants.{Less, Equal, Greater}
-use Rattle.std.specs.declared.ops.Bound.TheVariants.{Included, Unbounded}
+use Rattle.std.specs.declared.ops.Bound.TheVariants.{Unbounded}
 use Rattle.std.specs.Iterator.{Yields, YieldsFirst}
 use Rattle.std.specs.List.{AllByRecursion}
 use Rattle.std.specs.List.Sorted.{IsStrictlySortedBy}
-use Rattle.std.specs.Ordering.{is_le, nat_cmp, ordering_then}
+use Rattle.std.specs.Ordering.{is_le, nat_cmp}
 use Rattle.std.proofs.lemmas.Bool.Decides.{nat_tests}
 use Rattle.std.proofs.lemmas.List.{append-nil}
-use Rattle.std.proofs.lemmas.List.Elements.{All-contains, All-contains_itself, All-filter, Contains-append_right, filter_passes}
+use Rattle.std.proofs.lemmas.List.Elements.{Contains-append_right}
 use Rattle.std.proofs.lemmas.List.Kept.{IsStrictlySortedBy-filter}
 use Rattle.dl_base.specs.Rows.{numbered_row_cmp}
 use Rattle.dl_base.specs.declared.row.Row.{Row}
 use Rattle.dl_base.specs.declared.row.Row.TheVariants as row
+use Rattle.dl_base.proofs.PlaceLemmas.{kept_in, kept_is}
 use Rattle.dl_base.proofs.RisingLemmas.{all_contains, contains_cases, contains_first, contains_later}
 use Rattle.assert_tables.specs.Mentions.{AreMentions, mention_cmp, rows_of, start_at}
 use Rattle.assert_tables.specs.Naming.{AreRowsNaming, front_of}
-use Rattle.assert_tables.specs.Rows.{IsNamedIn}
 use Rattle.assert_tables.specs.contracts.row_set.MentionOrd.TheImpl.{cmp-value as mention_order}
 use Rattle.assert_tables.specs.declared.row_set.Mention.{Mention}
 use Rattle.assert_tables.proofs.MentionLemmas.{beside, mention, mention_counts}
@@ -85,23 +85,6 @@ front_rises a (m ∷ ms) rises = by (front_rises a ms rises.1) (m.individual == 
 
 -- ---- the part of a set that begins at an individual
 
-filter_keeps : {X : Type 0} (p : X → Bool) (xs : List X) (x : X) → Contains xs x → p x ≡ true → Contains (filter p xs) x
-filter_keeps p [] x c e = absurd (omega (arith, c.1))
-filter_keeps p (y ∷ ys) x c e = by (λ d. filter_keeps p ys x d e) (p y) refl
-  where
-    by : (Contains ys x → Contains (filter p ys) x) → (b : Bool) → p y ≡ b → Contains (cond b (y ∷ filter p ys) (filter p ys)) x
-    by rest true is = elim (contains_cases y ys x c) [
-      | inl same ↦ subst (Contains (y ∷ filter p ys)) (sym same) (contains_first y (filter p ys))
-      | inr d ↦ contains_later y (filter p ys) x (rest d)
-    ]
-    by rest false is = elim (contains_cases y ys x c) [
-      | inl same ↦ absurd (let f : true ≡ false = sym e ∙ ap p same ∙ is in cc)
-      | inr d ↦ rest d
-    ]
-
-filter_within : {X : Type 0} (p : X → Bool) (xs : List X) (x : X) → Contains (filter p xs) x → Contains xs x
-filter_within p xs x c = All-contains (Contains xs) (filter p xs) x (All-filter p (Contains xs) xs (All-contains_itself xs)) c
-
 le_not_greater : (r : Ordering) → is_le r ≡ true → r ≢ Greater
 le_not_greater Less e f = absurd cc
 le_not_greater Equal e f = absurd cc
@@ -143,17 +126,17 @@ naming_are ms a part are rises is =
       rising = front_rises a part part_rises;
       each = λ r. (
         λ c.
-            let there : Contains ms (mention a r) = filter_within (is_from a) ms (mention a r) (subst (λ (xs : List Mention). Contains xs (mention a r)) is (front_within a part r c)) in
+            let there : Contains ms (mention a r) = (kept_is (is_from a) ms (mention a r) (subst (λ (xs : List Mention). Contains xs (mention a r)) is (front_within a part r c))).0 in
             (mention_counts ms (mention a r) there, are.named (mention a r) there),
         λ p.
             let there : Contains part (mention a r) = subst (λ (xs : List Mention). Contains xs (mention a r)) (sym is)
-            (filter_keeps (is_from a) ms (mention a r) ((beside ms are a r p.1).0 p.0) (own_from a r)) in
+            (kept_in (is_from a) ms (mention a r) ((beside ms are a r p.1).0 p.0) (own_from a r)) in
             within_front a part part_rises (λ m d. above m (subst (λ (xs : List Mention). Contains xs m) is d)) r there,
       );
     }
   where
     above : (m : Mention) → Contains (filter (is_from a) ms) m → a ≤ m.individual
-    above m c = from_above a m (All-contains (λ x. is_from a x ≡ true) (filter (is_from a) ms) m (filter_passes (is_from a) ms) c)
+    above m c = from_above a m (kept_is (is_from a) ms m c).1
 
 -- ---- the rows one after another
 

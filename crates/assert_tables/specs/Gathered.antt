@@ -25,10 +25,6 @@ pub record AreGathered (settled waiting : List Row) (above : ℕ) : Type 0 where
 abbrev pub AreBeside : List Row → List Mention → Type 0
 AreBeside rows ms = (m : Mention) → Contains ms m ↔ (Contains rows m.row × IsNamedIn m.individual m.row)
 
--- the individuals that the rows name, in any order and repeatedly
-abbrev pub AreNamedBy : List Row → List ℕ → Type 0
-AreNamedBy rows names = (a : ℕ) → Contains names a ↔ ((r : Row) × Contains rows r × IsNamedIn a r)
-
 -- the rows of the list came to the others, in order
 pub record AreAdded (list old new : List Row) : Type 0 where
   pub rising : AreRisingRows new

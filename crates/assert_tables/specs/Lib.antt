@@ -2,3 +2,4 @@ pub mod Rows
 pub mod Mentions
 pub mod Naming
 pub mod Gathered
+pub mod Listing

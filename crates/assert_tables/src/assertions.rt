@@ -1,13 +1,12 @@
 //! Asserted rows and how many there are.
 ghost use Rattle.std.specs.Prelude.{◌≡◌, ◌↔◌, [], IsTrue, IfOk, OnOk, OnErr, MatchBool, Contains, length};
-ghost use Rattle.assert_tables.specs.Gathered.{AreNamedBy};
 ghost use Rattle.assert_tables.specs.Naming.{AreRowsNaming};
 ghost use Rattle.dl_base.specs.declared.row.Row.{Row as AnyRow};
 ghost use Rattle.assert_tables.specs.Rows.{AreRisingRows, Gains, IsCountOfNew, IsNewcomer, IsNextIndividual, IsNextOf, Loses, individuals_of};
 
 use crate::naming::RowsNaming;
 use crate::order::in_order;
-use crate::row_set::{RowSet, first_mention, last_mention};
+use crate::row_set::RowSet;
 use dl_base::Row;
 use std::alloc::{AllocError, Global};
 use std::marker::Model;
@@ -51,12 +50,11 @@ impl Assertions {
         ensures rows { IfOk result (λ a. (r : AnyRow) → Contains a r ↔ Contains rows.items r) }
     {
         let rows = in_order(rows);
-        let individuals = in_order(individuals(alloc, rows.as_slice())?).len() as u64;
-        let set = RowSet::of_rows(alloc, rows.as_slice())?;
+        let (set, individuals) = RowSet::of_rows(alloc, rows.as_slice())?;
         Ok(Assertions {
             set,
             rows: rows.len() as u64,
-            individuals,
+            individuals: individuals as u64,
         })
     }
 
@@ -130,18 +128,6 @@ impl Assertions {
     {
         self.individuals
     }
-}
-
-/// The individuals that the rows name, in any order and repeatedly.
-fn individuals(alloc: Global, rows: &[Row]) -> Result<Vec<u32>, AllocError>
-    ensures { IfOk result (λ names. AreNamedBy rows.now names.items) }
-{
-    let mut individuals = Vec::with_capacity(alloc, rows.len().saturating_mul(2))?;
-    for row in rows {
-        individuals.push(first_mention(*row).individual)?;
-        individuals.push(last_mention(*row).individual)?;
-    }
-    Ok(individuals)
 }
 
 /// How many of the individuals that the row names are named by no row of the set.

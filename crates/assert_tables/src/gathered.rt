@@ -2,11 +2,13 @@
 ghost use Rattle.std.specs.Prelude.{◌≡◌, ◌≤◌, ◌<◌, ◌+◌, ◌⊎◌, ◌↔◌, [], ℕ, Contains, IsTrue, IfOk, OnOk, length};
 ghost use Rattle.assert_tables.specs.Gathered.{AreAdded, AreGathered, Settles};
 ghost use Rattle.dl_base.specs.declared.row.Row.{Row as AnyRow};
+ghost use Rattle.assert_tables.specs.Listing.{IsListOf};
 ghost use Rattle.assert_tables.specs.Rows.{AreRisingRows, Gains, Loses, first_of, individuals_of, last_of};
 
 use crate::assertions::Assertions;
+use crate::listing::listed;
 use crate::order::in_order;
-use dl_base::Row;
+use dl_base::{Row, RowList};
 use std::alloc::{AllocError, Global};
 use std::marker::Model;
 use std::mem;
@@ -107,6 +109,22 @@ impl GatheredRows {
         } = self;
         settle(&mut settled, &mut waiting)?;
         Ok(settled)
+    }
+
+    /// The rows as a list, each once. Rows that only ever waited are sorted, and no tree is made of them.
+    pub fn into_list(self) -> Result<RowList, AllocError>
+        ensures { IfOk result (IsListOf self) }
+    {
+        let GatheredRows {
+            mut settled,
+            mut waiting,
+            ..
+        } = self;
+        if settled.rows() == 0 {
+            return Ok(RowList::from_vec(in_order(waiting)));
+        }
+        settle(&mut settled, &mut waiting)?;
+        listed(*waiting.allocator(), &settled)
     }
 }
 

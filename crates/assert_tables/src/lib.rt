@@ -3,6 +3,7 @@
 
 mod assertions;
 mod gathered;
+mod listing;
 mod naming;
 mod order;
 mod row_set;
@@ -11,5 +12,6 @@ mod tests;
 
 pub use assertions::Assertions;
 pub use gathered::GatheredRows;
+pub use listing::listed;
 pub use naming::RowsNaming;
 pub use order::in_order;

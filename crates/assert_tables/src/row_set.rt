@@ -1,14 +1,15 @@
 //! A set of rows that is searched by row and by individual.
-ghost use Rattle.std.specs.Prelude.{◌≡◌, ◌^◌, ◌<◌, ◌≤◌, ◌↔◌, [], length, IsTrue, IsSomeAnd, IfSome, IfNone, IfOk, OnOk, OnErr, MatchBool, Contains};
+ghost use Rattle.std.specs.Prelude.{◌≡◌, ◌^◌, ◌<◌, ◌≤◌, ◌↔◌, [], length, IsTrue, IsSomeAnd, IfSome, IfNone, IfOk, OnOk, OnErr, MatchBool, Contains, map};
 ghost use Rattle.std.specs.Bool.{OnTrue};
 ghost use Rattle.std.specs.BTreeSet.{IsFromIterResult};
-ghost use Rattle.assert_tables.specs.Rows.{AreRisingRows, Gains, IsNextIndividual, IsNextOf, Loses, first_of, last_of};
+ghost use Rattle.assert_tables.specs.Rows.{AreRisingRows, Gains, IsNextIndividual, IsNextOf, Loses, first_of, individuals_of, last_of};
 ghost use Rattle.assert_tables.specs.Gathered.{AreBeside};
 ghost use Rattle.assert_tables.specs.Mentions.{IsLeastFrom, IsLow, start_at};
 ghost use Rattle.assert_tables.specs.Naming.{AreRowsNaming};
 ghost use Rattle.dl_base.specs.declared.row.Row.{Row as AnyRow};
 
 use crate::naming::RowsNaming;
+use crate::order::in_order;
 use dl_base::Row;
 use std::alloc::{AllocError, Global};
 use std::collections::BTreeSet;
@@ -58,16 +59,16 @@ impl RowSet {
         }
     }
 
-    /// These rows.
-    pub fn of_rows(alloc: Global, rows: &[Row]) -> Result<RowSet, AllocError>
-        ensures rising { IfOk result AreRisingRows }
-        ensures rows { IfOk result (λ set. (r : AnyRow) → Contains set r ↔ Contains rows.now r) }
+    /// These rows, and how many individuals they name.
+    pub fn of_rows(alloc: Global, rows: &[Row]) -> Result<(RowSet, usize), AllocError>
+        ensures rising { IfOk result (λ made. AreRisingRows made.0) }
+        ensures rows { IfOk result (λ made. (r : AnyRow) → Contains made.0 r ↔ Contains rows.now r) }
+        ensures individuals { IfOk result (λ made. made.1 ≡ length (individuals_of made.0)) }
     {
-        let mut mentions = mentions_of(alloc, rows)?;
-        mentions.sort_unstable();
-        Ok(RowSet {
-            mentions: set_of(alloc, mentions)?,
-        })
+        let mentions = in_order(mentions_of(alloc, rows)?);
+        let individuals = in_order(individuals(alloc, mentions.as_slice())?).len();
+        let mentions = set_of(alloc, mentions)?;
+        Ok((RowSet { mentions }, individuals))
     }
 
     /// Whether the row is there.
@@ -164,6 +165,16 @@ fn mentions_of(alloc: Global, rows: &[Row]) -> Result<Vec<Mention>, AllocError>
     Ok(mentions)
 }
 
+/// The individuals of the mentions, in their order.
+fn individuals(alloc: Global, mentions: &[Mention]) -> Result<Vec<u32>, AllocError>
+    ensures { IfOk result (λ names. names.items ≡ map (λ m. m.individual) mentions.now) }
+{
+    mentions
+        .iter()
+        .map(|mention| mention.individual)
+        .collect(alloc)
+}
+
 /// The least number above `after`, or of all; none where the greatest isn't above it.
 fn number_above(after: Option<u32>, greatest: u32) -> Option<u32>
     ensures found { IfSome result (IsLow after) }
@@ -200,7 +211,7 @@ fn next_from(mentions: &BTreeSet<Mention>, start: Bound<Mention>) -> Option<Ment
 }
 
 /// The row beside the first individual that it names.
-pub(crate) fn first_mention(row: Row) -> Mention
+fn first_mention(row: Row) -> Mention
     ensures { result ≡ record { individual = first_of row; row = row } }
 {
     let individual = match row {
@@ -211,7 +222,7 @@ pub(crate) fn first_mention(row: Row) -> Mention
 }
 
 /// The row beside the last individual that it names, which may be the first one too.
-pub(crate) fn last_mention(row: Row) -> Mention
+fn last_mention(row: Row) -> Mention
     ensures { result ≡ record { individual = last_of row; row = row } }
 {
     let individual = match row {

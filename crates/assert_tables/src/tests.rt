@@ -144,3 +144,22 @@ fn gathered_rows_are_counted_as_they_come(rt: HostRuntime) -> Result<(), Fail> {
     assert!(rt; !rows.has(role(1, 7, 4)));
     Ok(())
 }
+
+#[test]
+fn gathered_rows_are_listed_once(rt: HostRuntime) -> Result<(), Fail> {
+    let mut waiting = GatheredRows::new(rt.alloc());
+    waiting.add(role(1, 9, 5))?;
+    waiting.add(concept(0, 5))?;
+    waiting.add(role(1, 9, 5))?;
+    let list = waiting.into_list()?;
+    assert_eq!(rt; list.items(), [concept(0, 5), role(1, 9, 5)].as_slice());
+
+    let mut settled = GatheredRows::new(rt.alloc());
+    settled.add(role(1, 9, 5))?;
+    settled.del(concept(0, 5))?;
+    settled.add(role(1, 9, 5))?;
+    settled.add(role(0, 7, 9))?;
+    let list = settled.into_list()?;
+    assert_eq!(rt; list.items(), [role(0, 7, 9), role(1, 9, 5)].as_slice());
+    Ok(())
+}

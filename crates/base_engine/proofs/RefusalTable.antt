@@ -17,7 +17,8 @@ use Rattle.query_shape.specs.declared.numbering.ShapeError.{ShapeError}
 use Rattle.query_shape.specs.declared.numbering.ShapeError.TheVariants as unknown
 use Rattle.base_store.specs.Area.{area_limit}
 use Rattle.base_store.specs.History.{used, with_ontology, with_transaction, ontology_of}
-use Rattle.base_store.specs.Legal.{IsCrowded, IsNamedBy}
+use Rattle.dl_base.specs.Numbers.{IsNamedBy}
+use Rattle.base_store.specs.Legal.{IsCrowded}
 use Rattle.reply_text.specs.declared.reply.Refusal.{Refusal}
 use Rattle.reply_text.specs.declared.reply.Refusal.TheVariants as refusal
 use Rattle.script_reader.specs.declared.command.Command.{Command}
@@ -27,7 +28,7 @@ use Rattle.base_engine.specs.State.{MachineState}
 use Rattle.base_engine.specs.Refusals.{AppendsChange, IsAccepted, IsRefusedFor, LacksNameOf, LacksNameIn, NeedsOntology, NeedsOpen, PosesQuery, RefusalHolds, UsesHandle, rank}
 use Rattle.base_engine.specs.RefusalLaws.{AbortRefusals, AskRefusals, BeginRefusals, BlockRefusals, ChangeRefusals, CommitRefusals, HandleRefusals, LineRefusals, OntologyRefusals, OthersAccepted, PrepareRefusals}
 use Rattle.base_engine.proofs.RowsOnce.{ontology_once}
-use Rattle.base_engine.proofs.RefusedOnce.{Tells, not_known, rank_row, rank_query}
+use Rattle.base_engine.proofs.RefusedOnce.{NamesUnknown, not_known, rank_row, rank_query}
 
 -- something and nothing
 pub some_or_none : {X : Type 0} (x : X) (found : Option X) → found ≡ Some x → found ≡ None → ⊥
@@ -324,7 +325,7 @@ ask_ten s q o f has (RefusalHolds.pending l x changes appends are many) = elim a
 ask_ten s q o f has (RefusalHolds.never_given j uses never) = elim uses [ ]
 ask_ten s q o f has (RefusalHolds.dropped j uses dropped) = elim uses [ ]
 
-known_no_fault : (o : Terminology) (atoms : List Atom) (e : ShapeError) → Tells e → All (IsKnown o) atoms → IsFirstFault o atoms e → ⊥
+known_no_fault : (o : Terminology) (atoms : List Atom) (e : ShapeError) → NamesUnknown e → All (IsKnown o) atoms → IsFirstFault o atoms e → ⊥
 known_no_fault o atoms e tells known fault =
     not_known o fault.atom e tells fault.fault
     (subst (IsKnown o) (get_or_from_slice_get atoms fault.place fault.atom fault.atom fault.there) (known fault.place fault.atom (slice_get_within atoms fault.place fault.atom fault.there)))

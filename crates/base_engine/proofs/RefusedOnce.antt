@@ -32,19 +32,19 @@ lacks_once o r e f (LacksNameOf.concept a) (LacksNameOf.concept b) = refl
 lacks_once o r e f (LacksNameOf.role a) (LacksNameOf.role b) = refl
 
 -- the error names what the ontology lacks
-abbrev pub Tells : ShapeError → Type 0
-Tells (unknown.UnknownConcept name) = Unit {0}
-Tells (unknown.UnknownRole name) = Unit {0}
-Tells unknown.NoMemory = ⊥
+abbrev pub NamesUnknown : ShapeError → Type 0
+NamesUnknown (unknown.UnknownConcept name) = Unit {0}
+NamesUnknown (unknown.UnknownRole name) = Unit {0}
+NamesUnknown unknown.NoMemory = ⊥
 
-pub not_known : (o : Terminology) (a : Atom) (e : ShapeError) → Tells e → IsAtomFault o a e → IsKnown o a → ⊥
+pub not_known : (o : Terminology) (a : Atom) (e : ShapeError) → NamesUnknown e → IsAtomFault o a e → IsKnown o a → ⊥
 not_known o (atom.Concept name t) (unknown.UnknownConcept told) tells fault known = fault.1 known
 not_known o (atom.Concept name t) (unknown.UnknownRole told) tells fault known = fault
 not_known o (atom.Role name t u) (unknown.UnknownConcept told) tells fault known = fault
 not_known o (atom.Role name t u) (unknown.UnknownRole told) tells fault known = fault.1 known
 not_known o a unknown.NoMemory tells fault known = tells
 
-fault_same : (o : Terminology) (a : Atom) (e f : ShapeError) → Tells e → Tells f → IsAtomFault o a e → IsAtomFault o a f → e ≡ f
+fault_same : (o : Terminology) (a : Atom) (e f : ShapeError) → NamesUnknown e → NamesUnknown f → IsAtomFault o a e → IsAtomFault o a f → e ≡ f
 fault_same o (atom.Concept name t) (unknown.UnknownConcept x) (unknown.UnknownConcept y) s t' a b = ap unknown.UnknownConcept (a.0 ∙ sym b.0)
 fault_same o (atom.Concept name t) (unknown.UnknownConcept x) (unknown.UnknownRole y) s t' a b = absurd b
 fault_same o (atom.Concept name t) (unknown.UnknownRole x) f s t' a b = absurd a
@@ -54,14 +54,14 @@ fault_same o (atom.Role name t u) (unknown.UnknownRole x) (unknown.UnknownRole y
 fault_same o a unknown.NoMemory f s t' x y = absurd s
 fault_same o a e unknown.NoMemory s t' x y = absurd t'
 
-not_before : (o : Terminology) (atoms : List Atom) (e f : ShapeError) → Tells e → (a : IsFirstFault o atoms e) (b : IsFirstFault o atoms f) → a.place < b.place → ⊥
+not_before : (o : Terminology) (atoms : List Atom) (e f : ShapeError) → NamesUnknown e → (a : IsFirstFault o atoms e) (b : IsFirstFault o atoms f) → a.place < b.place → ⊥
 not_before o atoms e f tells a b lt =
     let within : b.place < length atoms = slice_get_within atoms b.place b.atom b.there in
     let long : length (take b.place atoms) ≡ b.place = length-take-le b.place atoms (omega arith) in
     let same : get_or (take b.place atoms) a.place a.atom ≡ a.atom = get_or-take b.place atoms a.place a.atom lt ∙ get_or_from_slice_get atoms a.place a.atom a.atom a.there in
     not_known o a.atom e tells a.fault (subst (IsKnown o) same (b.before a.place a.atom (omega (arith, long, lt))))
 
-fault_once : (o : Terminology) (atoms : List Atom) (e f : ShapeError) → Tells e → Tells f → IsFirstFault o atoms e → IsFirstFault o atoms f → e ≡ f
+fault_once : (o : Terminology) (atoms : List Atom) (e f : ShapeError) → NamesUnknown e → NamesUnknown f → IsFirstFault o atoms e → IsFirstFault o atoms f → e ≡ f
 fault_once o atoms e f s t a b =
     let left = not_before o atoms e f s a b in
     let right = not_before o atoms f e t b a in

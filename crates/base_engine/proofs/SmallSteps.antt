@@ -20,7 +20,7 @@ use Rattle.dl_base.proofs.Examples.{ann_is_staff, only_item}
 use Rattle.query_shape.specs.ShapeFault.{IsKnown}
 use Rattle.base_store.specs.Area.{area_limit}
 use Rattle.base_store.specs.History.{History, Empty, Over, used, with_transaction, ontology_of}
-use Rattle.base_store.specs.Legal.{IsNamedBy}
+use Rattle.dl_base.specs.Numbers.{IsNamedBy}
 use Rattle.reply_text.specs.declared.reply.Reply.{Reply}
 use Rattle.reply_text.specs.declared.reply.Reply.TheVariants as reply
 use Rattle.script_reader.specs.declared.command.Command.TheVariants as command

@@ -20,7 +20,8 @@ use Rattle.query_shape.specs.declared.numbering.ShapeError.TheVariants as unknow
 use Rattle.query_shape.proofs.MatchList.{Decided, decide_member}
 use Rattle.base_store.specs.Area.{area_limit}
 use Rattle.base_store.specs.History.{used, with_ontology, with_transaction, ontology_of}
-use Rattle.base_store.specs.Legal.{IsCrowded, IsNamedBy}
+use Rattle.dl_base.specs.Numbers.{IsNamedBy}
+use Rattle.base_store.specs.Legal.{IsCrowded}
 use Rattle.reply_text.specs.declared.reply.Refusal.{Refusal}
 use Rattle.reply_text.specs.declared.reply.Refusal.TheVariants as refusal
 use Rattle.script_reader.specs.declared.command.Command.{Command}

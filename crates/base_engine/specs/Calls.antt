@@ -3,7 +3,7 @@ use Rattle.std.specs.Prelude.{◌≡◌, ◌≢◌, ◌⊎◌, ℕ, List, Option
 use Rattle.std.specs.Option.{ForSome}
 use Rattle.host_io.specs.Disk.{Disk, IsSettled}
 use Rattle.host_io.specs.Moments.{IsShown, Left}
-use Rattle.gated_log.specs.Stops.{LeavesImages, LeavesSince, LeavesThen}
+use Rattle.gated_log.specs.Stops.{LeavesImages, LeavesAtLast, LeavesThen}
 use Rattle.base_store.specs.Area.{HoldsHistory, IsDamaged, KeepsHistory}
 use Rattle.base_store.specs.History.{History}
 use Rattle.reply_text.specs.declared.reply.Reply.{Reply}
@@ -67,7 +67,7 @@ pub record LeavesKept (h : History) (printed : Option (List ℕ)) (second : List
 
 -- from some moment of the call on, that of its first sync, a stop leaves an area that keeps the history
 abbrev pub IsSynced : {H : Type 0} → (H → ℕ) → (H → ℕ → Left → Type 0) → Option (List ℕ) → List ℕ → History → H → H → Type 0
-IsSynced clock might printed second h old new = LeavesSince clock might (LeavesKept h printed second) old new
+IsSynced clock might printed second h old new = LeavesAtLast clock might (LeavesKept h printed second) old new
 
 -- A base is loaded: until the first sync nothing is written, and from then on the first area keeps the history.
 abbrev pub Loads : {H T E : Type 0} → (H → ℕ) → (H → ℕ → Left → Type 0) → Disk → Option (List ℕ) → History → Result T E → H → H → Type 0

@@ -5,9 +5,9 @@ use Rattle.std.specs.Option.{ForSome}
 use Rattle.std.proofs.lemmas.List.{append_cancel_left, length-take-le}
 use Rattle.host_io.specs.Disk.{Disk, IsSettled}
 use Rattle.gated_log.specs.Entries.{BeginsWithEntries, Entry, OffendsBehind, body, gate_place, spelling, within}
-use Rattle.gated_log.specs.Fault.{FaultSays as LogSays}
+use Rattle.gated_log.specs.Fault.{FaultSays}
 use Rattle.gated_log.specs.Reading.{AnswersNext, GoesOnWith, IsAll, entry_in}
-use Rattle.gated_log.specs.State.{IsBegun, ReaderState}
+use Rattle.gated_log.specs.State.{IsBegun, LogReaderState}
 use Rattle.gated_log.specs.declared.reader.LogFault.{LogFault}
 use Rattle.gated_log.specs.declared.reader.LogFault.TheVariants as log
 use Rattle.gated_log.specs.declared.reader.Next.TheVariants.{Entry as AnEntry}
@@ -15,15 +15,15 @@ use Rattle.gated_log.proofs.LawLemmas.{alone, begun_twice, body_of_one, inner_en
 use Rattle.base_store.specs.History.{History, Empty, used}
 use Rattle.base_store.specs.Legal.{Continues, Tells}
 use Rattle.base_store.specs.Area.{HoldsHistory, IsDamagedBehind, area_limit}
-use Rattle.base_store.specs.Loaded.{FaultSays, load_fault}
-use Rattle.base_store.specs.Loading.{BeginsWith, HasRead, HasReadAll, Keeps, KeepsNext}
+use Rattle.base_store.specs.Loaded.{LoadFaultSays, load_fault}
+use Rattle.base_store.specs.Loading.{BeginsWith, HasReadSoFar, HasReadAll, IsLoadingOf, KeepsNext}
 use Rattle.base_store.specs.declared.load.LoadFault.{LoadFault}
 use Rattle.base_store.specs.declared.loading.Loading.{Loading}
 use Rattle.base_store.proofs.Told.{continues_used, gate_stands_at_used, leads_more}
 
 -- ---- faults of the log
 
-pub says_both : (P Q R : ℕ → Type 0) (f : LogFault) → ((at : ℕ) → P at → Q at → R at) → LogSays P f → LogSays Q f → FaultSays R (load_fault f)
+pub says_both : (P Q R : ℕ → Type 0) (f : LogFault) → ((at : ℕ) → P at → Q at → R at) → FaultSays P f → FaultSays Q f → LoadFaultSays R (load_fault f)
 says_both P Q R log.DiskFault from one other = tt
 says_both P Q R (log.Damaged area at) from one other = (one.0, from at one.1 other.1)
 
@@ -111,17 +111,17 @@ module _ (area : List ℕ) (h : History) (b : BeginsWith area h) (gate : ℕ) (p
 
 -- ---- whether the host tells its bytes or not
 
-module _ (disk : Option Disk) (r : ReaderState) (l : Loading) (read : HasRead disk r l) where
+module _ (disk : Option Disk) (r : LogReaderState) (l : Loading) (read : HasReadSoFar disk r l) where
   pub read_ready : ForSome disk (λ d. IsSettled d × IsBegun (within r.limit) r.gate d.first.reads)
   read_ready = λ d told.
       let a = read.area d told in
       subst (λ (n : ℕ). IsSettled d × IsBegun (within n) r.gate d.first.reads) (sym read.limit) (a.0, (a.1.entries, a.1.rest, a.1.begins, gate_is d.first.reads read.history a.1 r.gate read.place))
 
-  pub read_more : (kind len : ℕ) (buffer : List ℕ) (new : ReaderState) (m : Loading) → len ≤ length buffer → r.gate + 6 + len ≤ r.limit → new ≡ record r { gate = r.gate + 6 + len; last = r.gate }
-      → ForSome disk (λ d. AnswersNext r d.first.reads buffer (AnEntry kind len)) → KeepsNext read.history (entry_in kind len buffer) m → HasRead disk new m
+  pub read_more : (kind len : ℕ) (buffer : List ℕ) (new : LogReaderState) (m : Loading) → len ≤ length buffer → r.gate + 6 + len ≤ r.limit → new ≡ record r { gate = r.gate + 6 + len; last = r.gate }
+      → ForSome disk (λ d. AnswersNext r d.first.reads buffer (AnEntry kind len)) → KeepsNext read.history (entry_in kind len buffer) m → HasReadSoFar disk new m
   read_more kind len buffer new m room fits moved answers next =
-      let gate : new.gate ≡ r.gate + 6 + len = ap (λ (s : ReaderState). s.gate) moved in
-      let limit : new.limit ≡ r.limit = ap (λ (s : ReaderState). s.limit) moved in
+      let gate : new.gate ≡ r.gate + 6 + len = ap (λ (s : LogReaderState). s.gate) moved in
+      let limit : new.limit ≡ r.limit = ap (λ (s : LogReaderState). s.limit) moved in
       record {
         history = next.next;
         keeps = next.keeps;
@@ -155,23 +155,23 @@ module _ (disk : Option Disk) (r : ReaderState) (l : Loading) (read : HasRead di
       stuck_there d.first.reads read.history a.1 r.gate read.place (entry_in kind len buffer) len
       (subst (λ (n : ℕ). GoesOnWith (within n) r.gate len d.first.reads (entry_in kind len buffer)) read.limit (answers d told)) illegal
 
-  pub read_offends : (f : LogFault) → ForSome disk (λ d. LogSays (OffendsBehind (within r.limit) d.first.reads) f) → LogSays (λ at. at ≡ r.gate) f
-      → ForSome disk (λ d. FaultSays (IsDamagedBehind d.first.reads) (load_fault f))
+  pub read_offends : (f : LogFault) → ForSome disk (λ d. FaultSays (OffendsBehind (within r.limit) d.first.reads) f) → FaultSays (λ at. at ≡ r.gate) f
+      → ForSome disk (λ d. LoadFaultSays (IsDamagedBehind d.first.reads) (load_fault f))
   read_offends f offends here = λ d told.
       let a = read.area d told in
       says_both (OffendsBehind (within area_limit) d.first.reads) (λ at. at ≡ r.gate) (IsDamagedBehind d.first.reads) f
       (λ at o is. offends_there d.first.reads read.history a.1 r.gate read.place at o is)
-      (subst (λ (n : ℕ). LogSays (OffendsBehind (within n) d.first.reads) f) read.limit (offends d told)) here
+      (subst (λ (n : ℕ). FaultSays (OffendsBehind (within n) d.first.reads) f) read.limit (offends d told)) here
 
 -- before the first entry
-pub read_first : (disk : Option Disk) (r : ReaderState) (l : Loading) → r ≡ record { gate = 17; last = 17; limit = area_limit; finished = false }
-    → ForSome disk (λ d. IsSettled d × IsBegun (within area_limit) 17 d.first.reads) → Keeps l Empty → HasRead disk r l
+pub read_first : (disk : Option Disk) (r : LogReaderState) (l : Loading) → r ≡ record { gate = 17; last = 17; limit = area_limit; finished = false }
+    → ForSome disk (λ d. IsSettled d × IsBegun (within area_limit) 17 d.first.reads) → IsLoadingOf l Empty → HasReadSoFar disk r l
 read_first disk r l is begun keeps = record {
   history = Empty;
   keeps = keeps;
-  limit = ap (λ (s : ReaderState). s.limit) is;
-  within = omega (arith, ap (λ (s : ReaderState). s.gate) is);
-  place = ap (λ (s : ReaderState). s.gate) is;
+  limit = ap (λ (s : LogReaderState). s.limit) is;
+  within = omega (arith, ap (λ (s : LogReaderState). s.gate) is);
+  place = ap (λ (s : LogReaderState). s.gate) is;
   area = λ d told.
       let b = begun d told in
       let none : b.1.0 ≡ [] = no_more_spelled b.1.0 (omega (arith, b.1.3)) in

@@ -4,7 +4,7 @@ use Rattle.std.proofs.lemmas.List.{take_all, take_more}
 use Rattle.std.proofs.lemmas.List.Elements.{All-push}
 use Rattle.assert_tables.specs.Rows.{Gains, Loses}
 use Rattle.dl_base.specs.Axiom.{with_names}
-use Rattle.dl_base.specs.Numbers.{IsPlaceOf, NumbersRow, names_in}
+use Rattle.dl_base.specs.Numbers.{IsNamedBy, IsPlaceOf, NumbersRow, names_in}
 use Rattle.dl_base.specs.Ontology.{Terminology, IsTerminology}
 use Rattle.dl_base.specs.declared.row.NamedRow.{NamedRow}
 use Rattle.dl_base.specs.declared.row.NamedRow.TheVariants as named
@@ -12,7 +12,6 @@ use Rattle.dl_base.specs.declared.row.NamedChange.{NamedChange}
 use Rattle.dl_base.specs.declared.row.Row.{Row}
 use Rattle.dl_base.proofs.NumberedRowLemmas.{names_keep_place, number_stays, one_name, one_number}
 use Rattle.dl_base.proofs.PlaceLemmas.{member_at}
-use Rattle.base_store.specs.Legal.{IsNamedBy}
 use Rattle.base_store.specs.Loading.{FollowsChange, FollowsChanges}
 use Rattle.base_store.proofs.AfterChanges.{changes_more, same_or_not}
 

@@ -4,7 +4,6 @@ pub mod Adding
 pub mod AfterChanges
 pub mod Following
 pub mod Counts
-pub mod ListedRows
 pub mod Bytes
 pub mod Taking
 pub mod EntriesRead

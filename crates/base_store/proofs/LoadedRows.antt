@@ -3,6 +3,7 @@ use Rattle.std.proofs.Common.{◌≡◌, ◌≤◌, ℕ, List, [], ◌∷◌, Al
 use Rattle.std.proofs.lemmas.Cmp.{nat_cmp_total}
 use Rattle.std.proofs.lemmas.Option.{slice_get_within, slice_get-get_or}
 use Rattle.std.specs.Ordering.{nat_cmp}
+use Rattle.assert_tables.specs.Listing.{IsListOf}
 use Rattle.assert_tables.specs.Rows.{individuals_of}
 use Rattle.assert_tables.proofs.CountLemmas.{individual_named, individuals_rise, named_individual}
 use Rattle.dl_base.specs.Numbers.{NumbersRow}
@@ -16,7 +17,7 @@ use Rattle.dl_base.proofs.PlaceLemmas.{member_at, no_more, some_same}
 use Rattle.dl_base.proofs.RisingLemmas.{nat_same}
 use Rattle.base_store.specs.History.{History, Empty, Over, used, ontology_of}
 use Rattle.base_store.specs.Loaded.{HasRows, IsInRange, IsLoadedOf, IsRowIn}
-use Rattle.base_store.specs.Loading.{AreFew, HasAllOf, IsListOf, Keeps}
+use Rattle.base_store.specs.Loading.{AreFew, HasAllOf, IsLoadingOf}
 use Rattle.base_store.specs.declared.load.Loaded.{Loaded}
 use Rattle.base_store.specs.declared.loading.Loading.{Loading}
 use Rattle.base_store.proofs.Taking.{count_within}
@@ -49,7 +50,7 @@ few_listed rows list lists few = record {
   );
 }
 
-pub is_loaded : (l : Loading) (loaded : Loaded) (h : History) → HasAllOf l loaded → Keeps l h → IsLoadedOf h loaded
+pub is_loaded : (l : Loading) (loaded : Loaded) (h : History) → HasAllOf l loaded → IsLoadingOf l h → IsLoadedOf h loaded
 is_loaded l loaded h all keeps = record {
   ontology = all.ontology ∙ keeps.ontology;
   rows = subst (λ (names : List (List ℕ)). HasRows h names loaded.rows) (sym all.individuals) (has_listed h l.individuals l.rows loaded.rows all.rows keeps.rows);
@@ -72,7 +73,7 @@ no_rows : (h : History) (names : List (List ℕ)) (rows : List Row) → ontology
 no_rows Empty names rows is has = has.1
 no_rows (Over p ts) names rows is has = absurd (let e : Some p ≡ None = is in cc)
 
-pub is_in_range : (l : Loading) (loaded : Loaded) (h : History) → HasAllOf l loaded → Keeps l h → used h ≤ 1073741824 → IsInRange loaded
+pub is_in_range : (l : Loading) (loaded : Loaded) (h : History) → HasAllOf l loaded → IsLoadingOf l h → used h ≤ 1073741824 → IsInRange loaded
 is_in_range l loaded h all keeps within =
     let is = is_loaded l loaded h all keeps in
     let few = few_listed l.rows loaded.rows all.rows keeps.few in

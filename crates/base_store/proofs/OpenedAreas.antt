@@ -14,7 +14,7 @@ use Rattle.gated_log.proofs.Running.{was_ok}
 use Rattle.gated_log.proofs.Since.{came_on}
 use Rattle.base_store.specs.History.{History, Empty, transaction_count, used}
 use Rattle.base_store.specs.Area.{HoldsHistory, IsDamaged, IsDamagedBehind, KeepsHistory, area_limit}
-use Rattle.base_store.specs.Loaded.{FaultSays, HasNumbersOf, LoadsFrom}
+use Rattle.base_store.specs.Loaded.{LoadFaultSays, HasNumbersOf, LoadsFrom}
 use Rattle.base_store.specs.Loading.{HasAllOf, HasReadAll}
 use Rattle.base_store.specs.Store.{StoreState}
 use Rattle.base_store.specs.declared.load.Loaded.{Loaded}
@@ -58,7 +58,7 @@ module _ (old new : List ℕ) (opens : Opens (within area_limit) old new) where
     | inr other ↦ inr (subst (λ (area : List ℕ). IsDamagedBehind area at) (opens.other other) damage)
   ]
 
-  pub damage_says : (f : LoadFault) → FaultSays (IsDamagedBehind new) f → FaultSays (IsDamaged old) f
+  pub damage_says : (f : LoadFault) → LoadFaultSays (IsDamagedBehind new) f → LoadFaultSays (IsDamaged old) f
   damage_says load.DiskFault says = tt
   damage_says (load.Damaged area at) says = (says.0, damaged_before at says.1)
   damage_says load.NoMemory says = tt

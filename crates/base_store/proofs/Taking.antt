@@ -4,7 +4,7 @@ use Rattle.std.specs.Prelude.{◌↔◌, IfOk, IsTrue, OnOk, MatchBool, Result, 
 use Rattle.std.proofs.lemmas.List.{length-map}
 use Rattle.std.proofs.lemmas.List.Sums.{sum_by-append}
 use Rattle.assert_tables.specs.Rows.{AreRisingRows}
-use Rattle.dl_base.specs.Numbers.{StandFor}
+use Rattle.dl_base.specs.Numbers.{IsNamedBy, StandFor}
 use Rattle.dl_base.specs.Ontology.{Terminology, IsTerminology}
 use Rattle.dl_base.specs.declared.row.NamedChange.{NamedChange}
 use Rattle.dl_base.specs.declared.row.Row.{Row}
@@ -16,9 +16,9 @@ use Rattle.txn_codec.specs.OntologyPayload.{ontology_payload}
 use Rattle.txn_codec.specs.Spelling.{changes_bytes, ontology_bytes}
 use Rattle.grammar.specs.Grammar.{Contains}
 use Rattle.base_store.specs.History.{History, Empty, Over, transaction_count, used}
-use Rattle.base_store.specs.Legal.{Continues, IsNamedBy, IsNextTransaction}
+use Rattle.base_store.specs.Legal.{Continues, IsNextTransaction}
 use Rattle.base_store.specs.Loaded.{HasRows}
-use Rattle.base_store.specs.Loading.{AreFew, FollowsChanges, FollowsNext, Keeps, KeepsNext, TakesPayload}
+use Rattle.base_store.specs.Loading.{AreFew, FollowsChanges, FollowsNext, IsLoadingOf, KeepsNext, TakesPayload}
 use Rattle.base_store.specs.declared.loading.Loading.{Loading}
 use Rattle.base_store.proofs.AfterChanges.{changes_lead, transactions_more}
 use Rattle.base_store.proofs.Bytes.{payload_size}
@@ -85,7 +85,7 @@ none_stand o names rows no_names no_rows = record {
 }
 
 -- an ontology where there is none
-pub taken_ontology : (l : Loading) (h : History) (kind : ℕ) (payload : List ℕ) (o : Terminology) → Keeps l h → l.ontology ≡ None → kind ≡ 1 → ontology_payload payload o
+pub taken_ontology : (l : Loading) (h : History) (kind : ℕ) (payload : List ℕ) (o : Terminology) → IsLoadingOf l h → l.ontology ≡ None → kind ≡ 1 → ontology_payload payload o
     → KeepsNext h (record { kind = kind; payload = payload }) (record { ontology = Some o; individuals = l.individuals; rows = l.rows; transactions = l.transactions })
 taken_ontology l Empty kind payload o keeps none first is = record {
   next = Over o [];
@@ -100,13 +100,13 @@ taken_ontology l Empty kind payload o keeps none first is = record {
 }
 taken_ontology l (Over p ts) kind payload o keeps none first is = absurd (let e : None ≡ Some p = sym none ∙ keeps.ontology in cc)
 
-pub no_ontology : (l : Loading) (h : History) (kind : ℕ) (payload : List ℕ) → Keeps l h → l.ontology ≡ None → (Contains ontology_payload payload → ⊥)
+pub no_ontology : (l : Loading) (h : History) (kind : ℕ) (payload : List ℕ) → IsLoadingOf l h → l.ontology ≡ None → (Contains ontology_payload payload → ⊥)
     → (next : History) → Continues h (record { kind = kind; payload = payload }) next → ⊥
 no_ontology l Empty kind payload keeps none outside next leads = outside (leads.1.0, leads.1.1)
 no_ontology l (Over p ts) kind payload keeps none outside next leads = absurd (let e : None ≡ Some p = sym none ∙ keeps.ontology in cc)
 
 -- a transaction behind an ontology
-pub taken_transaction : (l : Loading) (h : History) (kind : ℕ) (payload : List ℕ) (o : Terminology) (more : List (List ℕ)) (rows : List Row) (legal : Bool) → Keeps l h → l.ontology ≡ Some o → kind ≡ 2
+pub taken_transaction : (l : Loading) (h : History) (kind : ℕ) (payload : List ℕ) (o : Terminology) (more : List (List ℕ)) (rows : List Row) (legal : Bool) → IsLoadingOf l h → l.ontology ≡ Some o → kind ≡ 2
     → ((before : List (List NamedChange)) → HasRows (Over o before) l.individuals l.rows
     → MatchBool legal (TakesPayload payload o before l.individuals more rows) ((changes : List NamedChange) → changes_payload payload changes → IsNextTransaction o before changes → ⊥))
     → MatchBool legal (KeepsNext h (record { kind = kind; payload = payload }) (record { ontology = l.ontology; individuals = more; rows = rows; transactions = l.transactions + 1 }))

@@ -1,19 +1,14 @@
 -- What may stand behind a history.
 use Rattle.std.specs.Prelude.{◌≡◌, ◌⊎◌, ◌<◌, ◌≤◌, ℕ, List, [], ◌∷◌, ◌++◌, length, All, Contains}
+use Rattle.dl_base.specs.Numbers.{IsNamedBy}
 use Rattle.dl_base.specs.Ontology.{Terminology}
 use Rattle.dl_base.specs.Rows.{AreIndividuals}
 use Rattle.dl_base.specs.declared.row.NamedRow.{NamedRow}
-use Rattle.dl_base.specs.declared.row.NamedRow.TheVariants as row
 use Rattle.dl_base.specs.declared.row.NamedChange.{NamedChange}
 use Rattle.txn_codec.specs.Changes.{changes_payload}
 use Rattle.txn_codec.specs.OntologyPayload.{ontology_payload}
 use Rattle.gated_log.specs.Entries.{Entry}
 use Rattle.base_store.specs.History.{History, Empty, Over, AreRowsAfter}
-
--- the ontology has the row's concept, or its role
-abbrev pub IsNamedBy : Terminology → NamedRow → Type 0
-IsNamedBy o (row.Concept c a) = Contains o.concepts c
-IsNamedBy o (row.Role p a b) = Contains o.roles p
 
 -- more than 1,000,000 rows or 65,536 individuals
 pub record IsCrowded (h : History) : Type 0 where

@@ -60,10 +60,10 @@ pub record LoadsFrom (area : List ℕ) (disk : Disk) (s : StoreState) (l : Loade
   pub loaded : IsLoadedOf history l
 
 -- where the history is damaged, it is that of the first area, and the place has this
-abbrev pub FaultSays : (ℕ → Type 0) → LoadFault → Type 0
-FaultSays P DiskFault = Unit {0}
-FaultSays P (Damaged area at) = (area ≡ 0) × P at
-FaultSays P NoMemory = Unit {0}
+abbrev pub LoadFaultSays : (ℕ → Type 0) → LoadFault → Type 0
+LoadFaultSays P DiskFault = Unit {0}
+LoadFaultSays P (Damaged area at) = (area ≡ 0) × P at
+LoadFaultSays P NoMemory = Unit {0}
 
 -- a fault of the log, handed on
 abbrev pub load_fault : LogFault → LoadFault

@@ -1,8 +1,9 @@
 -- What is kept while the entries of a log are read.
-use Rattle.std.specs.Prelude.{◌≡◌, ◌≤◌, ◌*◌, ◌+◌, ◌↔◌, ◌≢◌, ◌⊎◌, ℕ, List, ◌∷◌, [], ◌++◌, length, AllPairs, Contains, Option}
+use Rattle.std.specs.Prelude.{◌≡◌, ◌≤◌, ◌*◌, ◌+◌, ℕ, List, ◌∷◌, [], ◌++◌, length, Option}
 use Rattle.std.specs.Option.{ForSome}
 use Rattle.host_io.specs.Disk.{Disk, IsSettled}
-use Rattle.assert_tables.specs.Rows.{first_of, individuals_of}
+use Rattle.assert_tables.specs.Listing.{IsListOf}
+use Rattle.assert_tables.specs.Rows.{individuals_of}
 use Rattle.dl_base.specs.Numbers.{StandFor}
 use Rattle.dl_base.specs.Ontology.{Terminology}
 use Rattle.dl_base.specs.declared.row.NamedRow.{NamedRow}
@@ -10,7 +11,7 @@ use Rattle.dl_base.specs.declared.row.NamedChange.{NamedChange}
 use Rattle.dl_base.specs.declared.row.Row.{Row}
 use Rattle.txn_codec.specs.Changes.{changes_payload}
 use Rattle.gated_log.specs.Entries.{BeginsWithEntries, Entry, within}
-use Rattle.gated_log.specs.State.{LogState, ReaderState}
+use Rattle.gated_log.specs.State.{LogState, LogReaderState}
 use Rattle.base_store.specs.History.{History, Over, IsAfterChange, IsAfterChanges, transaction_count, used, ontology_of}
 use Rattle.base_store.specs.Legal.{Continues, IsNextTransaction, Tells}
 use Rattle.base_store.specs.Area.{HoldsHistory, area_limit}
@@ -44,7 +45,7 @@ pub record TakesPayload (payload : List ℕ) (o : Terminology) (before : List (L
   pub few_names : 2 * length more ≤ 2 * length names + length payload
 
 -- what is kept is this history
-pub record Keeps (l : Loading) (h : History) : Type 0 where
+pub record IsLoadingOf (l : Loading) (h : History) : Type 0 where
   pub ontology : l.ontology ≡ ontology_of h
   pub rows : HasRows h l.individuals l.rows
   pub few : AreFew l.rows
@@ -55,7 +56,7 @@ pub record Keeps (l : Loading) (h : History) : Type 0 where
 pub record KeepsNext (h : History) (e : Entry) (l : Loading) : Type 0 where
   pub next : History
   pub leads : Continues h e next
-  pub keeps : Keeps l next
+  pub keeps : IsLoadingOf l next
 
 -- the area begins with entries that tell this history
 pub record BeginsWith (area : List ℕ) (h : History) : Type 0 where
@@ -65,9 +66,9 @@ pub record BeginsWith (area : List ℕ) (h : History) : Type 0 where
   pub told : Tells entries h
 
 -- what is kept is what the entries before the reader's gate tell
-pub record HasRead (disk : Option Disk) (r : ReaderState) (l : Loading) : Type 0 where
+pub record HasReadSoFar (disk : Option Disk) (r : LogReaderState) (l : Loading) : Type 0 where
   pub history : History
-  pub keeps : Keeps l history
+  pub keeps : IsLoadingOf l history
   pub limit : r.limit ≡ area_limit
   pub within : r.gate ≤ area_limit
   pub place : r.gate ≡ used history
@@ -76,25 +77,11 @@ pub record HasRead (disk : Option Disk) (r : ReaderState) (l : Loading) : Type 0
 -- what is kept is the history that the area holds, and the log takes entries behind it
 pub record HasReadAll (disk : Option Disk) (log : LogState) (l : Loading) : Type 0 where
   pub history : History
-  pub keeps : Keeps l history
+  pub keeps : IsLoadingOf l history
   pub limit : log.limit ≡ area_limit
   pub within : log.end ≤ area_limit
   pub place : log.end ≡ used history
   pub area : ForSome disk (λ d. IsSettled d × HoldsHistory d.first.reads history)
-
--- the rows, each once, in some order
-pub record IsListOf (rows list : List Row) : Type 0 where
-  pub once : AllPairs (λ x y. x ≢ y) list
-  pub each : (r : Row) → Contains list r ↔ Contains rows r
-
--- the row goes last where its first individual is this one, and else the list stays
-abbrev pub ListsRow : ℕ → Row → List Row → List Row → Type 0
-ListsRow n r old new = ((first_of r ≡ n) × (new ≡ old ++ r ∷ [])) ⊎ ((first_of r ≢ n) × (new ≡ old))
-
--- the rows whose first individual this is come to the list, each once where none was there
-pub record ListsFrom (n : ℕ) (rows old new : List Row) : Type 0 where
-  pub each : (r : Row) → Contains new r ↔ (((first_of r ≡ n) × Contains rows r) ⊎ Contains old r)
-  pub once : AllPairs (λ x y. x ≢ y) old → ((r : Row) → Contains old r → first_of r ≢ n) → AllPairs (λ x y. x ≢ y) new
 
 -- the ontology, the book, the number and the rows, each once
 pub record HasAllOf (l : Loading) (loaded : Loaded) : Type 0 where

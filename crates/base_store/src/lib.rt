@@ -5,16 +5,13 @@
 #![tactic(auto)]
 
 pub mod laws;
-mod listing;
 mod load;
 mod loading;
 mod store;
 #[cfg(test)]
 mod untold;
 
-pub use listing::listed;
 pub use load::{LoadFault, Loaded};
-pub use loading::place_of;
 pub use store::{KeepFault, Store};
 
 #[cfg(test)]

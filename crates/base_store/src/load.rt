@@ -8,10 +8,9 @@ ghost use Rattle.gated_log.specs.Entries.{IsFresh, within};
 ghost use Rattle.gated_log.specs.State.{IsBegun};
 ghost use Rattle.gated_log.specs.Stops.{AtFirst, AtOpening, IsOpening, LeavesImages, LeavesThen, WhileOpened};
 ghost use Rattle.base_store.specs.Area.{IsDamaged, IsDamagedBehind};
-ghost use Rattle.base_store.specs.Loaded.{FaultSays, HasNumbersOf, IsInRange, LoadsFrom, load_fault};
-ghost use Rattle.base_store.specs.Loading.{HasAllOf, HasRead, HasReadAll};
+ghost use Rattle.base_store.specs.Loaded.{LoadFaultSays, HasNumbersOf, IsInRange, LoadsFrom, load_fault};
+ghost use Rattle.base_store.specs.Loading.{HasAllOf, HasReadSoFar, HasReadAll};
 
-use crate::listing::listed;
 use crate::loading::Loading;
 use crate::store::{AREA_LIMIT, Store};
 use dl_base::{NameBook, Ontology, RowList};
@@ -79,10 +78,10 @@ impl Store {
         // The history that the area keeps is loaded, what a read gives is the only image, and the store stands for it.
         ensures ok { IfOk result (λ r. ForSome (H.disk host.old) (λ d. (e : Disk) × (H.disk host.new ≡ Some e) × (e.second.reads ≡ d.second.reads)
             × LoadsFrom d.first.reads e r.0 r.1)) }
-        ensures damaged { IfErr result (λ f. ForSome (H.disk host.old) (λ d. FaultSays (IsDamaged d.first.reads) f)) }
+        ensures damaged { IfErr result (λ f. ForSome (H.disk host.old) (λ d. LoadFaultSays (IsDamaged d.first.reads) f)) }
 
         // Over every host damage is that of the first area.
-        ensures damaged_area { IfErr result (FaultSays (λ at. Unit {0})) }
+        ensures damaged_area { IfErr result (LoadFaultSays (λ at. Unit {0})) }
         ensures moments { ForSome (H.disk host.old) (λ d. LeavesOnly H.clock H.might host.old host.new (AtOpening (within 1073741824) d (H.printed host.old))) }
 
         // Until the sync a stop leaves an image of each area, and from then on what opening the first one leaves.
@@ -104,13 +103,13 @@ impl Store {
         let reader = Reader::load(host, AREA_LIMIT)?;
         let (log, loading) = read_all(alloc, host, reader)?;
         let store = Store::over(log, loading.transactions);
-        let loaded = into_loaded(alloc, loading)?;
+        let loaded = into_loaded(loading)?;
         Ok((store, loaded))
     }
 }
 
 /// What was kept while a log was read, with its rows as a list.
-fn into_loaded(alloc: Global, loading: Loading) -> Result<Loaded, AllocError>
+fn into_loaded(loading: Loading) -> Result<Loaded, AllocError>
     ensures { IfOk result (HasAllOf loading) }
 {
     let Loading {
@@ -119,11 +118,10 @@ fn into_loaded(alloc: Global, loading: Loading) -> Result<Loaded, AllocError>
         rows,
         transactions,
     } = loading;
-    let rows = listed(alloc, &rows.into_rows()?)?;
     Ok(Loaded {
         ontology,
         individuals,
-        rows,
+        rows: rows.into_list()?,
         transactions,
     })
 }
@@ -138,8 +136,8 @@ fn read_all<H: Host>(
     requires ready { ForSome (H.disk host.old) (λ d. IsSettled d × IsBegun (within 1073741824) 17 d.first.reads) }
 
     ensures all { IfOk result (λ r. HasReadAll (H.disk host.new) r.0 r.1) }
-    ensures damaged { IfErr result (λ f. ForSome (H.disk host.old) (λ d. FaultSays (IsDamagedBehind d.first.reads) f)) }
-    ensures damaged_area { IfErr result (FaultSays (λ at. Unit {0})) }
+    ensures damaged { IfErr result (λ f. ForSome (H.disk host.old) (λ d. LoadFaultSays (IsDamagedBehind d.first.reads) f)) }
+    ensures damaged_area { IfErr result (LoadFaultSays (λ at. Unit {0})) }
     ensures moments { ForSome (H.disk host.old) (λ d. LeavesOnly H.clock H.might host.old host.new (AtFirst d (H.printed host.old) (λ c. c ≡ d.first.reads))) }
     ensures disk { H.disk host.new ≡ H.disk host.old }
     ensures printed { H.printed host.new ≡ H.printed host.old }
@@ -171,11 +169,11 @@ fn read_each<H: Host>(
     loading: &mut Loading,
 ) -> Result<(), LoadFault>
     requires room { 8388608 ≤ length payload.old }
-    requires read { HasRead (H.disk host.old) reader.old loading.old }
+    requires read { HasReadSoFar (H.disk host.old) reader.old loading.old }
 
     ensures all { OnOk result ((reader.new.finished ≡ true) × HasReadAll (H.disk host.new) (record { end = reader.new.gate; limit = reader.new.limit }) loading.new) }
-    ensures damaged { IfErr result (λ f. ForSome (H.disk host.old) (λ d. FaultSays (IsDamagedBehind d.first.reads) f)) }
-    ensures damaged_area { IfErr result (FaultSays (λ at. Unit {0})) }
+    ensures damaged { IfErr result (λ f. ForSome (H.disk host.old) (λ d. LoadFaultSays (IsDamagedBehind d.first.reads) f)) }
+    ensures damaged_area { IfErr result (LoadFaultSays (λ at. Unit {0})) }
     ensures moments { ForSome (H.disk host.old) (λ d. LeavesOnly H.clock H.might host.old host.new (AtFirst d (H.printed host.old) (λ c. c ≡ d.first.reads))) }
     ensures disk { H.disk host.new ≡ H.disk host.old }
     ensures printed { H.printed host.new ≡ H.printed host.old }
@@ -197,13 +195,13 @@ fn read_next<H: Host>(
     loading: &mut Loading,
 ) -> Result<bool, LoadFault>
     requires room { 8388608 ≤ length payload.old }
-    requires read { HasRead (H.disk host.old) reader.old loading.old }
+    requires read { HasReadSoFar (H.disk host.old) reader.old loading.old }
 
     ensures on { IfOk result (λ on. MatchBool on
-        ((reader.old.gate < reader.new.gate) × HasRead (H.disk host.new) reader.new loading.new)
+        ((reader.old.gate < reader.new.gate) × HasReadSoFar (H.disk host.new) reader.new loading.new)
         ((reader.new.finished ≡ true) × HasReadAll (H.disk host.new) (record { end = reader.new.gate; limit = reader.new.limit }) loading.new)) }
-    ensures damaged { IfErr result (λ f. ForSome (H.disk host.old) (λ d. FaultSays (IsDamagedBehind d.first.reads) f)) }
-    ensures damaged_area { IfErr result (FaultSays (λ at. Unit {0})) }
+    ensures damaged { IfErr result (λ f. ForSome (H.disk host.old) (λ d. LoadFaultSays (IsDamagedBehind d.first.reads) f)) }
+    ensures damaged_area { IfErr result (LoadFaultSays (λ at. Unit {0})) }
     ensures moments { ForSome (H.disk host.old) (λ d. LeavesOnly H.clock H.might host.old host.new (AtFirst d (H.printed host.old) (λ c. c ≡ d.first.reads))) }
     ensures disk { H.disk host.new ≡ H.disk host.old }
     ensures printed { H.printed host.new ≡ H.printed host.old }

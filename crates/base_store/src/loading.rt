@@ -3,16 +3,16 @@ ghost use Rattle.std.specs.Prelude.{◌≡◌, ◌<◌, ◌≤◌, ◌+◌, ◌*
 ghost use Rattle.assert_tables.specs.Rows.{AreRisingRows};
 ghost use Rattle.dl_base.specs.Axiom.{with_names};
 ghost use Rattle.dl_base.specs.Book.{Interns};
-ghost use Rattle.dl_base.specs.Numbers.{IsPlaceOf, NumbersRow, names_in};
+ghost use Rattle.dl_base.specs.Numbers.{IsNamedBy, IsPlaceOf, NumbersRow, names_in};
 ghost use Rattle.dl_base.specs.Ontology.{Terminology, IsTerminology};
 ghost use Rattle.dl_base.specs.declared.row.NamedChange.{NamedChange as AnyChange};
 ghost use Rattle.dl_base.specs.declared.row.Row.{Row as AnyRow};
 ghost use Rattle.txn_codec.specs.Changes.{changes_payload};
-ghost use Rattle.txn_codec.specs.ChangeView.{change_of, row_of};
+ghost use Rattle.txn_codec.specs.ChangeView.{change_viewed, row_viewed};
 ghost use Rattle.base_store.specs.History.{Empty, History, Over, used};
-ghost use Rattle.base_store.specs.Legal.{Continues, IsNamedBy, IsNextTransaction};
+ghost use Rattle.base_store.specs.Legal.{Continues, IsNextTransaction};
 ghost use Rattle.base_store.specs.Loaded.{HasRows};
-ghost use Rattle.base_store.specs.Loading.{AreFew, FollowsChange, FollowsChanges, FollowsNext, Keeps, KeepsNext, TakesPayload};
+ghost use Rattle.base_store.specs.Loading.{AreFew, FollowsChange, FollowsChanges, FollowsNext, IsLoadingOf, KeepsNext, TakesPayload};
 
 use assert_tables::GatheredRows;
 use dl_base::{NameBook, NamedRow, Ontology, Row};
@@ -34,7 +34,7 @@ pub struct Loading {
 impl Loading {
     /// Before the first entry. It takes no memory.
     pub(crate) fn new(alloc: Global) -> Loading
-        ensures { Keeps result Empty }
+        ensures { IsLoadingOf result Empty }
     {
         Loading {
             ontology: None,
@@ -52,8 +52,8 @@ impl Loading {
         kind: u8,
         payload: &[u8],
     ) -> Result<bool, AllocError>
-        requires { (h : History) × Keeps self.old h × (used h ≤ 1073741824) }
-        ensures { (h : History) → Keeps self.old h → IfOk result (λ legal. MatchBool legal
+        requires { (h : History) × IsLoadingOf self.old h × (used h ≤ 1073741824) }
+        ensures { (h : History) → IsLoadingOf self.old h → IfOk result (λ legal. MatchBool legal
             (KeepsNext h (record { kind = kind; payload = payload.now }) self.new)
             ((next : History) → Continues h (record { kind = kind; payload = payload.now }) next → ⊥)) }
     {
@@ -189,10 +189,10 @@ fn make(
     requires { length individuals.old ≤ 3900000000 }
     ensures names { OnOk result (length individuals.new ≤ 2 + length individuals.old) }
     ensures made { IfOk result (λ named. MatchBool named
-        (IsNamedBy ontology.now (row_of change.now.row))
-        (IsNamedBy ontology.now (row_of change.now.row) → ⊥)) }
+        (IsNamedBy ontology.now (row_viewed change.now.row))
+        (IsNamedBy ontology.now (row_viewed change.now.row) → ⊥)) }
     ensures follows { IfOk result (λ named. IsTrue named
-        → FollowsChange ontology.now (change_of change.now) individuals.old rows.old individuals.new rows.new) }
+        → FollowsChange ontology.now (change_viewed change.now) individuals.old rows.old individuals.new rows.new) }
 {
     let Some(place) = place_in(ontology, &change.row) else {
         return Ok(false);
@@ -205,20 +205,9 @@ fn make(
     Ok(true)
 }
 
-/// The place of the row's concept or role in the ontology.
-pub fn place_of(ontology: &Ontology, row: &NamedRow) -> Option<u32>
-    ensures is { MatchOption result (IsNamedBy ontology.now row.now → ⊥) (λ place. IsPlaceOf ontology.now row.now place) }
-    ensures within { IsTerminology ontology.now }
-{
-    match row {
-        NamedRow::Concept { concept, .. } => ontology.concepts().find(concept.bytes()),
-        NamedRow::Role { role, .. } => ontology.roles().find(role.bytes()),
-    }
-}
-
-/// The same of a row whose names stand in a payload.
+/// The place of the concept or role of a row whose names stand in a payload.
 fn place_in(ontology: &Ontology, row: &RowView<'_>) -> Option<u32>
-    ensures is { MatchOption result (IsNamedBy ontology.now (row_of row.now) → ⊥) (λ place. IsPlaceOf ontology.now (row_of row.now) place) }
+    ensures is { MatchOption result (IsNamedBy ontology.now (row_viewed row.now) → ⊥) (λ place. IsPlaceOf ontology.now (row_viewed row.now) place) }
     ensures within { IsTerminology ontology.now }
 {
     match row {
@@ -237,8 +226,8 @@ fn add_row(
 ) -> Result<(), AllocError>
     requires { length individuals.old ≤ 3900000000 }
     ensures names { OnOk result (length individuals.new ≤ 2 + length individuals.old) }
-    ensures added { (o : Terminology) → IsPlaceOf o (row_of row.now) place
-        → OnOk result (FollowsChange o (record { add = true; row = row_of row.now }) individuals.old rows.old individuals.new rows.new) }
+    ensures added { (o : Terminology) → IsPlaceOf o (row_viewed row.now) place
+        → OnOk result (FollowsChange o (record { add = true; row = row_viewed row.now }) individuals.old rows.old individuals.new rows.new) }
 {
     let row = number(alloc, place, individuals, row)?;
     rows.add(row)?;
@@ -253,8 +242,8 @@ fn remove_row(
     rows: &mut GatheredRows,
     row: &RowView<'_>,
 ) -> Result<(), AllocError>
-    ensures { (o : Terminology) → IsTerminology o → IsPlaceOf o (row_of row.now) place
-        → OnOk result (FollowsChange o (record { add = false; row = row_of row.now }) individuals.now rows.old individuals.now rows.new) }
+    ensures { (o : Terminology) → IsTerminology o → IsPlaceOf o (row_viewed row.now) place
+        → OnOk result (FollowsChange o (record { add = false; row = row_viewed row.now }) individuals.now rows.old individuals.now rows.new) }
 {
     match known(place, individuals, row) {
         Some(row) => rows.del(row),
@@ -270,9 +259,9 @@ fn number(
     row: &RowView<'_>,
 ) -> Result<Row, AllocError>
     requires { length individuals.old ≤ 3900000000 }
-    ensures names { OnOk result (individuals.new ≡ with_names individuals.old (names_in (row_of row.now))) }
+    ensures names { OnOk result (individuals.new ≡ with_names individuals.old (names_in (row_viewed row.now))) }
     ensures few { OnOk result (length individuals.new ≤ 2 + length individuals.old) }
-    ensures numbers { (o : Terminology) → IsPlaceOf o (row_of row.now) place → IfOk result (NumbersRow o individuals.new (row_of row.now)) }
+    ensures numbers { (o : Terminology) → IsPlaceOf o (row_viewed row.now) place → IfOk result (NumbersRow o individuals.new (row_viewed row.now)) }
 {
     match row {
         RowView::Concept { individual, .. } => Ok(Row::Concept {
@@ -305,9 +294,9 @@ fn intern(
 
 /// The row by numbers, where the book has its individuals.
 fn known(place: u32, individuals: &NameBook, row: &RowView<'_>) -> Option<Row>
-    ensures { (o : Terminology) → IsPlaceOf o (row_of row.now) place → MatchOption result
-        ((n : AnyRow) → NumbersRow o individuals.now (row_of row.now) n → ⊥)
-        (λ n. NumbersRow o individuals.now (row_of row.now) n) }
+    ensures { (o : Terminology) → IsPlaceOf o (row_viewed row.now) place → MatchOption result
+        ((n : AnyRow) → NumbersRow o individuals.now (row_viewed row.now) n → ⊥)
+        (λ n. NumbersRow o individuals.now (row_viewed row.now) n) }
 {
     match row {
         RowView::Concept { individual, .. } => Some(Row::Concept {

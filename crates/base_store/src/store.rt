@@ -9,7 +9,7 @@ ghost use Rattle.txn_codec.specs.Changes.{changes_payload};
 ghost use Rattle.txn_codec.specs.OntologyPayload.{ontology_payload};
 ghost use Rattle.txn_codec.specs.Spelling.{changes_bytes, ontology_bytes};
 ghost use Rattle.base_store.specs.History.{Empty, History, with_ontology, with_transaction};
-ghost use Rattle.base_store.specs.KeepFault.{HandsBack, IsFull};
+ghost use Rattle.base_store.specs.KeepFault.{HandsBack, IsStoreFull};
 ghost use Rattle.base_store.specs.Legal.{CanFollow};
 ghost use Rattle.base_store.specs.Store.{HoldsEither, HoldsEitherMore, HoldsMore, IsAtEnd, StandsFor, StandsForNext};
 
@@ -144,7 +144,7 @@ impl Store {
         // Whatever is answered, the area holds the history from before, or the one with the transaction.
         ensures reads { ForSome (H.disk host.old) (λ d. (e : Disk) × (H.disk host.new ≡ Some e) × (e.second.reads ≡ d.second.reads)
             × HoldsEither (with_transaction changes.now) d.first.reads e.first.reads) }
-        ensures full { IsErrAnd result (λ e. IsFull e) ↔ (1073741824 < self.used + 6 + length (changes_bytes changes.now)) }
+        ensures full { IsErrAnd result (λ e. IsStoreFull e) ↔ (1073741824 < self.used + 6 + length (changes_bytes changes.now)) }
         ensures handed_back { IsErrAnd result (λ e. e ≡ KeepFault.DiskFault) ⊎ IfErr result (HandsBack self (6 + length (changes_bytes changes.now))) }
         ensures untouched { IsErrAnd result (λ e. e ≡ KeepFault.DiskFault) ⊎ IfErr result (λ _. host.new ≡ host.old) }
         ensures untold { H.disk host.old ≡ None → H.disk host.new ≡ None }
@@ -189,7 +189,7 @@ impl Store {
         // Whatever is answered, the area holds the history from before, or the one with the ontology.
         ensures reads { ForSome (H.disk host.old) (λ d. (e : Disk) × (H.disk host.new ≡ Some e) × (e.second.reads ≡ d.second.reads)
             × HoldsEither (with_ontology o.now) d.first.reads e.first.reads) }
-        ensures full { IsErrAnd result (λ e. IsFull e) ↔ (1073741824 < self.used + 6 + length (ontology_bytes o.now)) }
+        ensures full { IsErrAnd result (λ e. IsStoreFull e) ↔ (1073741824 < self.used + 6 + length (ontology_bytes o.now)) }
         ensures handed_back { IsErrAnd result (λ e. e ≡ KeepFault.DiskFault) ⊎ IfErr result (HandsBack self (6 + length (ontology_bytes o.now))) }
         ensures untouched { IsErrAnd result (λ e. e ≡ KeepFault.DiskFault) ⊎ IfErr result (λ _. host.new ≡ host.old) }
         ensures untold { H.disk host.old ≡ None → H.disk host.new ≡ None }
@@ -216,7 +216,7 @@ impl Store {
     /// Says that an entry with a payload of so many bytes has no room.
     fn full(self, payload: u64) -> KeepFault
         requires { payload ≤ 8388608 }
-        ensures full { IsFull result }
+        ensures full { IsStoreFull result }
         ensures says { HandsBack self (6 + payload) result }
     {
         let end = self.log.end();

@@ -1,7 +1,7 @@
 -- Members and places of lists, and lists that go together.
-use Rattle.std.proofs.Common.{◌≡◌, ◌≢◌, ℕ, zero, suc, ◌<◌, ◌≤◌, ◌⊎◌, inl, inr, List, [], ◌∷◌, ◌++◌, length, map, get_or, Some, None, slice_get, AllPairs, Contains, refl, sym, ◌∙◌, ap, subst, arith}
+use Rattle.std.proofs.Common.{◌≡◌, ◌≢◌, ℕ, zero, suc, Bool, true, false, if◌then◌else◌, ◌<◌, ◌≤◌, ◌⊎◌, inl, inr, List, [], ◌∷◌, ◌++◌, length, map, get_or, Some, None, slice_get, AllPairs, Contains, refl, sym, ◌∙◌, ap, subst, arith}
 use Rattle.std.specs.Prelude.{flat_map}
-use Rattle.std.specs.List.{AllZip}
+use Rattle.std.specs.List.{AllZip, filter}
 use Rattle.std.proofs.lemmas.List.Elements.{Contains-append_left, Contains-append_right, Contains-append_cases}
 use Rattle.std.proofs.lemmas.Option.{slice_get_within, get_or_from_slice_get, slice_get-get_or}
 use Rattle.dl_base.proofs.RisingLemmas.{contains_cases, contains_later, contains_first}
@@ -146,6 +146,29 @@ map_from f (x ∷ xs) y c = elim (contains_cases (f x) (map f xs) y c) [
   | inl e ↦ (x, contains_first x xs, e)
   | inr d ↦ let found = map_from f xs y d in (found.0, contains_later x xs found.0 found.1, found.2)
 ]
+
+-- what a filter keeps
+pub kept_is : {X : Type 0} (p : X → Bool) (xs : List X) (x : X) → Contains (filter p xs) x → Contains xs x × (p x ≡ true)
+kept_is p [] x c = absurd (omega (arith, c.1))
+kept_is {X} p (y ∷ ys) x c = by (p y) refl (kept_is p ys x) c
+  where
+    by : (b : Bool) → p y ≡ b → (Contains (filter p ys) x → Contains ys x × (p x ≡ true))
+        → Contains (if b then y ∷ filter p ys else filter p ys) x → Contains (y ∷ ys) x × (p x ≡ true)
+    by true e rest c = elim (contains_cases y (filter p ys) x c) [
+      | inl same ↦ (subst (λ (z : X). Contains (z ∷ ys) x) same (contains_first x ys), subst (λ (z : X). p z ≡ true) (sym same) e)
+      | inr d ↦ (let k = rest d in (contains_later y ys x k.0, k.1))
+    ]
+    by false e rest c = let k = rest c in (contains_later y ys x k.0, k.1)
+
+pub kept_in : {X : Type 0} (p : X → Bool) (xs : List X) (x : X) → Contains xs x → p x ≡ true → Contains (filter p xs) x
+kept_in p [] x c is = absurd (omega (arith, c.1))
+kept_in {X} p (y ∷ ys) x c is = by (p y) refl (λ d. kept_in p ys x d is) (contains_cases y ys x c)
+  where
+    by : (b : Bool) → p y ≡ b → (Contains ys x → Contains (filter p ys) x) → (x ≡ y) ⊎ Contains ys x → Contains (if b then y ∷ filter p ys else filter p ys) x
+    by true e rest (inl same) = subst (λ (z : X). Contains (z ∷ filter p ys) x) same (contains_first x (filter p ys))
+    by true e rest (inr d) = contains_later y (filter p ys) x (rest d)
+    by false e rest (inl same) = absurd (let out : p x ≡ false = subst (λ (z : X). p z ≡ false) (sym same) e in let both : true ≡ false = sym is ∙ out in cc)
+    by false e rest (inr d) = rest d
 
 -- what a part has is in the whole, and what is in the whole some part has
 pub flat_there : {X Y : Type 0} (f : X → List Y) (xs : List X) (x : X) (y : Y) → Contains xs x → Contains (f x) y → Contains (flat_map f xs) y

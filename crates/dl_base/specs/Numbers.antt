@@ -11,6 +11,11 @@ abbrev pub IsPlaceOf : Terminology → NamedRow → ℕ → Type 0
 IsPlaceOf o (named.Concept c a) place = slice_get o.concepts place ≡ Some c
 IsPlaceOf o (named.Role p a b) place = slice_get o.roles place ≡ Some p
 
+-- the ontology has the row's concept, or its role
+abbrev pub IsNamedBy : Terminology → NamedRow → Type 0
+IsNamedBy o (named.Concept c a) = Contains o.concepts c
+IsNamedBy o (named.Role p a b) = Contains o.roles p
+
 -- the individuals of the row, from left to right
 abbrev pub names_in : NamedRow → List (List ℕ)
 names_in (named.Concept c a) = a ∷ []

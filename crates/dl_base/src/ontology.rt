@@ -1,10 +1,12 @@
 //! Ontologies: their names and inclusions, within the limits.
-ghost use Rattle.std.specs.Prelude.{◌≡◌, ◌≢◌, ◌<◌, ◌≤◌, ◌↔◌, ◌∷◌, [], IfOk, IfErr, OnOk, IsTrue, MatchBool, All, AllPairs, Contains, slice_get, Some, length};
+ghost use Rattle.std.specs.Prelude.{◌≡◌, ◌≢◌, ◌<◌, ◌≤◌, ◌↔◌, ◌∷◌, [], IfOk, IfErr, OnOk, IsTrue, MatchBool, MatchOption, All, AllPairs, Contains, slice_get, Some, length};
 ghost use Rattle.dl_base.specs.Axiom.{Extends, Adds, IsStatement, AddsInclusions, AreNamed, IsNamed, Numbers, NumbersInclusion, with_names};
+ghost use Rattle.dl_base.specs.Numbers.{IsNamedBy, IsPlaceOf};
 ghost use Rattle.dl_base.specs.Ontology.{IsTerminology};
 
 use crate::{
-    Axiom, Basic, Head, Inclusion, Name, NameBook, NamedBasic, NamedHead, NamedInclusion, Role,
+    Axiom, Basic, Head, Inclusion, Name, NameBook, NamedBasic, NamedHead, NamedInclusion, NamedRow,
+    Role,
 };
 use plain_list::Items;
 use std::alloc::{AllocError, Global};
@@ -80,6 +82,17 @@ impl Ontology {
         ensures within { IsTerminology self.now }
     {
         &self.roles
+    }
+
+    /// The place of the row's concept or role; none where the ontology hasn't got it. It takes no memory.
+    pub fn place_of(&self, row: &NamedRow) -> Option<u32>
+        ensures place { MatchOption result (IsNamedBy self.now row.now → ⊥) (IsPlaceOf self.now row.now) }
+        ensures within { IsTerminology self.now }
+    {
+        match row {
+            NamedRow::Concept { concept, .. } => self.concepts.find(concept.bytes()),
+            NamedRow::Role { role, .. } => self.roles.find(role.bytes()),
+        }
     }
 
     /// The inclusions, numbered from 1. It takes no memory.

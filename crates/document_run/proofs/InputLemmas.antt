@@ -3,7 +3,7 @@ use Rattle.std.proofs.Common.{◌≡◌, ◌≢◌, true, ◌≤◌, ◌<◌, �
 use Rattle.std.proofs.lemmas.List.{length-take, length-map, append-nil, map-append, take_all}
 use Rattle.host_io.specs.Source.{Takes, AtEnd}
 use Rattle.script_reader.specs.Lines.{AreLines, line_of, last_line}
-use Rattle.script_reader.specs.Feeding.{LineSoFar, IsBehind, Tells, TellsLast, begun, kept, EndsWithin, GoesOnOver}
+use Rattle.script_reader.specs.Feeding.{LineSoFar, IsBehind, TellsFed, TellsLast, begun, kept, EndsWithin, GoesOnOver}
 use Rattle.script_reader.specs.declared.lines.Fed.{Fed}
 use Rattle.script_reader.specs.declared.lines.Fed.TheVariants as fed
 use Rattle.document_run.specs.Drafting.{KeepsDraft, Finishes}
@@ -60,14 +60,14 @@ module _ (read : List ℕ) (old new : LineSoFar) (input : List ℕ) (count : ℕ
 
   -- ---- what is told of a part
 
-  module _ (f : Fed) (tells : Tells old input count f new) where
+  module _ (f : Fed) (tells : TellsFed old input count f new) where
     pub more_told : f ≡ fed.More → IsReading (read ++ take count input) new draft
-    more_told is = reading_goes_on (subst (λ (g : Fed). Tells old input count g new) is tells)
+    more_told is = reading_goes_on (subst (λ (g : Fed). TellsFed old input count g new) is tells)
 
     pub line_taken : f ≡ fed.Line → length read < 2 ^ 63 → (text : List ℕ) → text ≡ line_of new.bytes → (next : Draft)
         → ((lines : List (List ℕ)) → length lines < 2 ^ 63 → length text ≤ 4096 → KeepsDraft lines draft → KeepsDraft (lines ++ text ∷ []) next) → IsReading (read ++ take count input) new next
     line_taken is few text same next takes =
-        let told = subst (λ (g : Fed). Tells old input count g new) is tells in
+        let told = subst (λ (g : Fed). TellsFed old input count g new) is tells in
         let line = line_told new.bytes (open_from [] read ++ told.0.text) (piece_ended told.0) told.1 in
         reading_ended told.0 next (subst (λ (l : List ℕ). KeepsDraft (map line_of (ended_from [] read) ++ l ∷ []) next) (same ∙ line.1)
         (takes (map line_of (ended_from [] read)) (omega (arith, few, few_lines read)) (subst (λ (l : List ℕ). length l ≤ 4096) (sym same) line.0) (keeps_so_far read old draft r)))
@@ -75,7 +75,7 @@ module _ (read : List ℕ) (old new : LineSoFar) (input : List ℕ) (count : ℕ
     pub long_line_taken : f ≡ fed.TooLong → length read < 2 ^ 63 → (next : Draft)
         → ((lines : List (List ℕ)) (text : List ℕ) → length lines < 2 ^ 63 → 4096 < length text → KeepsDraft lines draft → KeepsDraft (lines ++ text ∷ []) next) → IsReading (read ++ take count input) new next
     long_line_taken is few next takes =
-        let told = subst (λ (g : Fed). Tells old input count g new) is tells in
+        let told = subst (λ (g : Fed). TellsFed old input count g new) is tells in
         let piece = open_from [] read ++ told.0.text in
         reading_ended told.0 next
         (takes (map line_of (ended_from [] read)) (line_of piece) (omega (arith, few, few_lines read)) (too_long_told new.bytes piece (piece_ended told.0) told.1) (keeps_so_far read old draft r))

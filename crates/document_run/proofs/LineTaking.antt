@@ -20,11 +20,11 @@ use Rattle.script_reader.specs.declared.doc_line.CommandError.{CommandError}
 use Rattle.script_reader.specs.declared.doc_line.CommandError.TheVariants as commands
 use Rattle.script_reader.specs.declared.doc_line.DocLine.{DocLine}
 use Rattle.script_reader.specs.declared.doc_line.DocLine.TheVariants as line
-use Rattle.dl_base.specs.Numbers.{IsPlaceOf}
+use Rattle.dl_base.specs.Numbers.{IsNamedBy, IsPlaceOf}
 use Rattle.document_run.specs.Facts.{KeepsFacts}
 use Rattle.document_run.specs.declared.document.Draft.TheVariants as drafts
 use Rattle.document_run.specs.Document.{Context, nothing_said, with_line, IsOutOfOrder, AsksTooMuch, IsUnsafe, TooManyFacts, FirstOffence, rank_of}
-use Rattle.document_run.specs.Drafting.{KeepsOntology, KeepsPartial, NextText, IsAskable, IsAskFault, LacksName, unknown_of}
+use Rattle.document_run.specs.Drafting.{KeepsOntology, KeepsPartial, NextText, IsAskable, IsAskFault, unknown_of}
 use Rattle.document_run.specs.declared.facts.Facts.{Facts}
 use Rattle.document_run.specs.declared.reason.Reason.{Reason}
 use Rattle.document_run.specs.declared.reason.Reason.TheVariants as reason
@@ -69,15 +69,15 @@ for_this P q holds = λ r same. let e : q ≡ r = same_some q r same in subst P 
 
 -- the ontology's names are those of the axioms
 module _ (said : Context) (o : Terminology) (k : KeepsOntology said o) where
-  lacks_there : (r : NamedRow) → LacksName o r → HoldsFor said (line.Fact r) (unknown_of r)
+  lacks_there : (r : NamedRow) → (IsNamedBy o r → ⊥) → HoldsFor said (line.Fact r) (unknown_of r)
   lacks_there (row.Concept c a) lacks = λ there. lacks (subst (λ (names : List (List ℕ)). Contains names c) (sym k.concepts) there)
   lacks_there (row.Role r a b) lacks = λ there. lacks (subst (λ (names : List (List ℕ)). Contains names r) (sym k.roles) there)
 
-  named_concept : (r : NamedRow) → (LacksName o r → ⊥) → HoldsFor said (line.Fact r) reason.UnknownConcept → ⊥
+  named_concept : (r : NamedRow) → ((IsNamedBy o r → ⊥) → ⊥) → HoldsFor said (line.Fact r) reason.UnknownConcept → ⊥
   named_concept (row.Concept c a) named unknown = named (λ there. unknown (subst (λ (names : List (List ℕ)). Contains names c) k.concepts there))
   named_concept (row.Role r a b) named unknown = unknown
 
-  named_role : (r : NamedRow) → (LacksName o r → ⊥) → HoldsFor said (line.Fact r) reason.UnknownRole → ⊥
+  named_role : (r : NamedRow) → ((IsNamedBy o r → ⊥) → ⊥) → HoldsFor said (line.Fact r) reason.UnknownRole → ⊥
   named_role (row.Concept c a) named unknown = unknown
   named_role (row.Role r a b) named unknown = named (λ there. unknown (subst (λ (names : List (List ℕ)). Contains names r) k.roles there))
 
@@ -86,10 +86,10 @@ none_unknown_before said (row.Concept c a) ordered = none_concept said (line.Fac
 none_unknown_before said (row.Role r a b) ordered = none_role said (line.Fact (row.Role r a b)) ordered (λ no'. no') (λ no'. no') (λ no'. no') (λ no'. no')
 
 module _ (lines : List (List ℕ)) (text : List ℕ) (r : NamedRow) (p : Partial) (next : NextText lines text p) (says : IsDocLine text (line.Fact r)) (ordered : IsOutOfOrder next.keeps.said (line.Fact r) → ⊥) where
-  lacking : LacksName p.ontology r → FirstOffence (lines ++ text ∷ []) (raised p.lines) (unknown_of r)
+  lacking : (IsNamedBy p.ontology r → ⊥) → FirstOffence (lines ++ text ∷ []) (raised p.lines) (unknown_of r)
   lacking lacks = refused_by lines text (line.Fact r) p next says (unknown_of r) (lacks_there next.keeps.said p.ontology next.keeps.ontology r lacks) (none_unknown_before next.keeps.said r ordered)
 
-  module _ (named : LacksName p.ontology r → ⊥) where
+  module _ (named : (IsNamedBy p.ontology r → ⊥) → ⊥) where
     passing : TooManyFacts (next.keeps.said.facts ++ r ∷ []) → FirstOffence (lines ++ text ∷ []) (raised p.lines) reason.TooManyFacts
     passing many = refused_by lines text (line.Fact r) p next says reason.TooManyFacts many
         (none_facts next.keeps.said (line.Fact r) ordered (λ no'. no') (λ no'. no') (λ no'. no')
@@ -163,13 +163,13 @@ module _ (lines : List (List ℕ)) (text : List ℕ) (p : Partial) (next : NextT
       fact_order some = not_asked p.asked next.keeps.said.query next.keeps.asked none some
 
       -- no axiom names its concept or its role
-      pub fact_unknown : LacksName p.ontology r → FirstOffence (lines ++ text ∷ []) (raised p.lines) (unknown_of r)
+      pub fact_unknown : (IsNamedBy p.ontology r → ⊥) → FirstOffence (lines ++ text ∷ []) (raised p.lines) (unknown_of r)
       fact_unknown lacks = lacking lines text r p next says fact_order lacks
 
-      pub fact_passes : (LacksName p.ontology r → ⊥) → TooManyFacts (next.keeps.said.facts ++ r ∷ []) → FirstOffence (lines ++ text ∷ []) (raised p.lines) reason.TooManyFacts
+      pub fact_passes : ((IsNamedBy p.ontology r → ⊥) → ⊥) → TooManyFacts (next.keeps.said.facts ++ r ∷ []) → FirstOffence (lines ++ text ∷ []) (raised p.lines) reason.TooManyFacts
       fact_passes named many = passing lines text r p next says fact_order named many
 
-      pub fact_more : (LacksName p.ontology r → ⊥) → (new : Facts) → KeepsFacts p.ontology (next.keeps.said.facts ++ r ∷ []) new
+      pub fact_more : ((IsNamedBy p.ontology r → ⊥) → ⊥) → (new : Facts) → KeepsFacts p.ontology (next.keeps.said.facts ++ r ∷ []) new
           → KeepsPartial (lines ++ text ∷ []) (record { ontology = p.ontology; facts = new; asked = p.asked; lines = raised p.lines })
       fact_more named new facts = adding lines text r p next says fact_order named new facts
 
@@ -297,7 +297,7 @@ pub unknown_draft : (p : Partial) (why : Reason) (r : NamedRow) → why ≡ unkn
 unknown_draft p why r same = ap (λ (w : Reason). drafts.Refused w (raised p.lines)) same
 
 -- a row with a place has a name that the axioms have
-pub place_named : (o : Terminology) (r : NamedRow) (place : ℕ) → IsPlaceOf o r place → LacksName o r → ⊥
+pub place_named : (o : Terminology) (r : NamedRow) (place : ℕ) → IsPlaceOf o r place → (IsNamedBy o r → ⊥) → ⊥
 place_named o (row.Concept c a) place is lacks = lacks (member_at o.concepts place c is)
 place_named o (row.Role p a b) place is lacks = lacks (member_at o.roles place p is)
 

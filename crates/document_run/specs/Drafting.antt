@@ -75,11 +75,6 @@ IsAskFault text reason.UnknownConcept = ⊥
 IsAskFault text reason.UnknownRole = ⊥
 IsAskFault text reason.TooManyFacts = ⊥
 
--- the ontology lacks the concept or the role of the row
-abbrev pub LacksName : Terminology → NamedRow → Type 0
-LacksName o (row.Concept c a) = Contains o.concepts c → ⊥
-LacksName o (row.Role p a b) = Contains o.roles p → ⊥
-
 -- why such a row is refused
 abbrev pub unknown_of : NamedRow → Reason
 unknown_of (row.Concept c a) = reason.UnknownConcept

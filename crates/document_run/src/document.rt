@@ -1,9 +1,7 @@
 //! A document, as far as its lines are read.
-ghost use Rattle.std.specs.Prelude.{◌≡◌, ◌<◌, ◌≤◌, ◌^◌, ◌++◌, ◌∷◌, [], ◌↔◌, IsTrue, IfOk, IfErr, None, List, ℕ, length, MatchOption};
+ghost use Rattle.std.specs.Prelude.{◌≡◌, ◌<◌, ◌≤◌, ◌^◌, ◌++◌, ◌∷◌, [], ◌↔◌, IsTrue, IfOk, IfErr, None, List, ℕ, length};
 ghost use Rattle.host_io.specs.Causes.{raised};
-ghost use Rattle.dl_base.specs.Ontology.{IsTerminology};
-ghost use Rattle.document_run.specs.Drafting.{Finishes, IsAskFault, KeepsDraft, KeepsPartial, LacksName, NextLine, NextText, unknown_of};
-ghost use Rattle.dl_base.specs.Numbers.{IsPlaceOf};
+ghost use Rattle.document_run.specs.Drafting.{Finishes, IsAskFault, KeepsDraft, KeepsPartial, NextLine, NextText, unknown_of};
 ghost use Rattle.document_run.specs.Run.{IsFinal};
 
 use crate::ending::DocumentEnding;
@@ -217,7 +215,7 @@ impl Partial {
         if self.asked.is_some() {
             return Ok(self.refused(Reason::Misplaced));
         }
-        match place_of(&self.ontology, row) {
+        match self.ontology.place_of(row) {
             None => Ok(self.refused(unknown_in(row))),
             Some(place) => {
                 if self.facts.add(place, row)? {
@@ -256,17 +254,6 @@ impl Partial {
         } else {
             self.refused(reason)
         }
-    }
-}
-
-/// The place of the row's concept or role, or `None` where no axiom names it.
-fn place_of(ontology: &Ontology, row: &NamedRow) -> Option<u32>
-    ensures place { MatchOption result (LacksName ontology.now row.now) (IsPlaceOf ontology.now row.now) }
-    ensures terminology { IsTerminology ontology.now }
-{
-    match row {
-        NamedRow::Concept { concept, .. } => ontology.concepts().find(concept.bytes()),
-        NamedRow::Role { role, .. } => ontology.roles().find(role.bytes()),
     }
 }
 

@@ -5,7 +5,7 @@ use Rattle.host_io.specs.Disk.{IsCopy}
 use Rattle.area_layout.specs.Layout.{head_bytes}
 use Rattle.area_layout.specs.declared.entry_head.EntryHead.{EntryHead}
 use Rattle.gated_log.specs.Entries.{Bounds, Entry, BeginsWithEntries, IsBroken, IsEntry, OffendsBehind, Stands, body, gate_place, spelling, top}
-use Rattle.gated_log.specs.Front.{IsOpen, IsWithin}
+use Rattle.gated_log.specs.Front.{IsOpen, IsHeadWithin}
 use Rattle.gated_log.specs.Reading.{entry_in}
 use Rattle.gated_log.proofs.Behind.{begins_more, place_more}
 
@@ -37,7 +37,7 @@ module _ (b : Bounds) (area : List ℕ) (entries : List Entry) (rest : List ℕ)
   pub offends : (rest ≡ []) ⊎ IsBroken b gate rest → OffendsBehind b area gate
   offends offence = record { entries = entries; rest = rest; begins = s; place = sym place; offence = offence }
 
-  module _ (h : EntryHead) (open_at : IsOpen rest h) (inside : IsWithin b gate h) where
+  module _ (h : EntryHead) (open_at : IsOpen rest h) (inside : IsHeadWithin b gate h) where
     fits : h.len < 2 ^ 32
     fits = omega (arith, inside.payload)
 

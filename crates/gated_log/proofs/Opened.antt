@@ -6,7 +6,7 @@ use Rattle.host_io.specs.Moments.{Left, Leaves, Elapses, LeavesOnly, IsShown}
 use Rattle.host_io.proofs.Moments.{started, goes_on, joined}
 use Rattle.host_io.proofs.Settled.{at_rest_image}
 use Rattle.gated_log.specs.Entries.{Bounds, IsFresh}
-use Rattle.gated_log.specs.Stops.{AtFirst, AtOpening, HoldsNothing, IsOpening, LeavesImages, LeavesSince, LeavesThen, WhileOpened}
+use Rattle.gated_log.specs.Stops.{AtFirst, AtOpening, HoldsNothing, IsOpening, LeavesImages, LeavesAtLast, LeavesThen, WhileOpened}
 use Rattle.gated_log.proofs.Since.{came, fell_short}
 
 module _ {H : Type 0} (disk : H → Option Disk) (printed : H → Option (List ℕ)) (clock : H → ℕ) (might : H → ℕ → Left → Type 0) where

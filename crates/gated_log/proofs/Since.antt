@@ -3,7 +3,7 @@ use Rattle.std.proofs.Common.{◌⊎◌, inl, inr, ⊎_elim, ℕ, arith}
 use Rattle.std.specs.Prelude.{Result, Ok, Err, OnOk, OnErr, IsErrAnd}
 use Rattle.host_io.specs.Moments.{Left, LeavesOnly}
 use Rattle.host_io.proofs.Moments.{joined, weaker}
-use Rattle.gated_log.specs.Stops.{LeavesSince, LeavesThen}
+use Rattle.gated_log.specs.Stops.{LeavesAtLast, LeavesThen}
 use Rattle.gated_log.proofs.Running.{on_ok}
 
 -- what holds anyway holds where a result is Err
@@ -22,7 +22,7 @@ is_fault (Err e) R is = tt
 
 module _ {H : Type 0} (clock : H → ℕ) (might : H → ℕ → Left → Type 0) (P Q : Left → Type 0) where
   -- the call came to the moment, whatever it answers
-  pub came : {T E : Type 0} (result : Result T E) (old new : H) → LeavesOnly clock might old new (λ left. P left ⊎ Q left) → LeavesSince clock might Q old new → LeavesThen clock might P Q result old new
+  pub came : {T E : Type 0} (result : Result T E) (old new : H) → LeavesOnly clock might old new (λ left. P left ⊎ Q left) → LeavesAtLast clock might Q old new → LeavesThen clock might P Q result old new
   came result old new moments since = record { moments = moments; synced = on_ok result _ (λ v is. since); or_not = on_err result _ (inl since) }
 
   -- the call failed before the moment
@@ -34,7 +34,7 @@ module _ {H : Type 0} (clock : H → ℕ) (might : H → ℕ → Left → Type 0
   }
 
   -- what is called behind the moment leaves what has Q
-  pub since_on : (old mid new : H) → LeavesSince clock might Q old mid → LeavesOnly clock might mid new Q → LeavesSince clock might Q old new
+  pub since_on : (old mid new : H) → LeavesAtLast clock might Q old mid → LeavesOnly clock might mid new Q → LeavesAtLast clock might Q old new
   since_on old mid new first second = record {
     since = first.since;
     later = first.later;
@@ -42,7 +42,7 @@ module _ {H : Type 0} (clock : H → ℕ) (might : H → ℕ → Left → Type 0
     each = λ left now. ⊎_elim (first.each left) (λ is. is) (second.before first.since left first.past now);
   }
 
-  pub came_on : {T E : Type 0} (result : Result T E) (old mid new : H) → LeavesOnly clock might old mid (λ left. P left ⊎ Q left) → LeavesSince clock might Q old mid → LeavesOnly clock might mid new Q
+  pub came_on : {T E : Type 0} (result : Result T E) (old mid new : H) → LeavesOnly clock might old mid (λ left. P left ⊎ Q left) → LeavesAtLast clock might Q old mid → LeavesOnly clock might mid new Q
       → LeavesThen clock might P Q result old new
   came_on result old mid new moments since run = came result old new (joined clock might old mid new _ _ _ moments run (λ left is. is) (λ left is. inr is)) (since_on old mid new since run)
 
@@ -60,13 +60,13 @@ weaker_then clock might P Q R result old new then from = record {
   or_not = by_err result then.or_not;
 }
   where
-    after : LeavesSince clock might Q old new → LeavesSince clock might R old new
+    after : LeavesAtLast clock might Q old new → LeavesAtLast clock might R old new
     after s = record { since = s.since; later = s.later; past = s.past; each = λ left now. from left (s.each left now) }
 
-    by_ok : {T E : Type 0} (r : Result T E) → OnOk r (LeavesSince clock might Q old new) → OnOk r (LeavesSince clock might R old new)
+    by_ok : {T E : Type 0} (r : Result T E) → OnOk r (LeavesAtLast clock might Q old new) → OnOk r (LeavesAtLast clock might R old new)
     by_ok (Ok v) s = after s
     by_ok (Err e) s = tt
 
-    by_err : {T E : Type 0} (r : Result T E) → OnErr r (LeavesSince clock might Q old new ⊎ LeavesOnly clock might old new P) → OnErr r (LeavesSince clock might R old new ⊎ LeavesOnly clock might old new P)
+    by_err : {T E : Type 0} (r : Result T E) → OnErr r (LeavesAtLast clock might Q old new ⊎ LeavesOnly clock might old new P) → OnErr r (LeavesAtLast clock might R old new ⊎ LeavesOnly clock might old new P)
     by_err (Ok v) s = tt
     by_err (Err e) s = ⊎_elim (λ q. inl (after q)) inr s

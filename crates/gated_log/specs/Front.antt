@@ -16,7 +16,7 @@ IsFront area Whole = take 17 area ≡ top
 IsFront area Wrong = OffendsAtTop area 0
 
 -- the head is within the bounds, and so is the gate behind its payload
-pub record IsWithin (b : Bounds) (gate : ℕ) (h : EntryHead) : Type 0 where
+pub record IsHeadWithin (b : Bounds) (gate : ℕ) (h : EntryHead) : Type 0 where
   pub least_kind : 1 ≤ h.kind
   pub greatest_kind : h.kind ≤ b.greatest_kind
   pub payload : h.len ≤ 8388608
@@ -24,7 +24,7 @@ pub record IsWithin (b : Bounds) (gate : ℕ) (h : EntryHead) : Type 0 where
 
 abbrev pub IsBounded : Bounds → ℕ → AtGate → Type 0
 IsBounded b gate Closed = Unit {0}
-IsBounded b gate (Open h) = IsWithin b gate h
+IsBounded b gate (Open h) = IsHeadWithin b gate h
 IsBounded b gate Broken = Unit {0}
 
 -- a gate is open, and this head stands behind it

@@ -2,7 +2,7 @@
 use Rattle.std.specs.Prelude.{◌≡◌, ◌≤◌, ◌+◌, ℕ, List, [], ◌∷◌, ◌++◌, take, true, Option, Some, None, Result, Ok, Err}
 use Rattle.area_layout.specs.declared.entry_head.EntryHead.{EntryHead}
 use Rattle.gated_log.specs.Entries.{Bounds, Entry, BeginsWithEntries, Stands, gate_place, within}
-use Rattle.gated_log.specs.State.{ReaderState}
+use Rattle.gated_log.specs.State.{LogReaderState}
 use Rattle.gated_log.specs.declared.reader.LogFault.{LogFault}
 use Rattle.gated_log.specs.declared.reader.Next.{Next}
 use Rattle.gated_log.specs.declared.reader.Next.TheVariants.{Entry as AnEntry, Finished}
@@ -26,12 +26,12 @@ HasRead b gate area buffer (Some h) = GoesOnWith b gate h.len area (entry_in h.k
 HasRead b gate area buffer None = IsAll b gate area
 
 -- what is answered of the area from the reader's gate on
-abbrev pub AnswersNext : ReaderState → List ℕ → List ℕ → Next → Type 0
+abbrev pub AnswersNext : LogReaderState → List ℕ → List ℕ → Next → Type 0
 AnswersNext r area buffer (AnEntry kind len) = GoesOnWith (within r.limit) r.gate len area (entry_in kind len buffer)
 AnswersNext r area buffer Finished = IsAll (within r.limit) r.gate area
 
 -- an entry is within the bounds and moves the gate behind it; the end is kept in mind; a fault changes nothing
-abbrev pub Moves : ReaderState → Result Next LogFault → ReaderState → Type 0
+abbrev pub Moves : LogReaderState → Result Next LogFault → LogReaderState → Type 0
 Moves old (Ok (AnEntry kind len)) new = (1 ≤ kind) × (kind ≤ 2) × (len ≤ 8388608) × (old.gate + 6 + len ≤ old.limit) × (new ≡ record old { gate = old.gate + 6 + len; last = old.gate })
 Moves old (Ok Finished) new = new ≡ record old { finished = true }
 Moves old (Err f) new = new ≡ old

@@ -8,7 +8,7 @@ pub record LogState : Type 0 where
   pub limit : ℕ
 
 -- The place of the gate that a reader reads next, that of the last entry's gate, the limit, and whether the end was answered.
-pub record ReaderState : Type 0 where
+pub record LogReaderState : Type 0 where
   pub gate : ℕ
   pub last : ℕ
   pub limit : ℕ

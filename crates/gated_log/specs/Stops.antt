@@ -35,7 +35,7 @@ abbrev pub WhileOpened : Bounds → Disk → Option (List ℕ) → Left → Type
 WhileOpened b disk printed left = AtFirst disk printed (IsOpening b disk.first.reads) left
 
 -- since some moment of a call a stop leaves what has P
-pub record LeavesSince {H : Type 0} (clock : H → ℕ) (might : H → ℕ → Left → Type 0) (P : Left → Type 0) (old new : H) : Type 0 where
+pub record LeavesAtLast {H : Type 0} (clock : H → ℕ) (might : H → ℕ → Left → Type 0) (P : Left → Type 0) (old new : H) : Type 0 where
   pub since : ℕ
   pub later : clock old ≤ since
   pub past : since ≤ clock new
@@ -44,5 +44,5 @@ pub record LeavesSince {H : Type 0} (clock : H → ℕ) (might : H → ℕ → L
 -- Until some moment of a call a stop leaves what has P, and from then on what has Q. A call that failed need not have come to that moment.
 pub record LeavesThen {H T E : Type 0} (clock : H → ℕ) (might : H → ℕ → Left → Type 0) (P Q : Left → Type 0) (result : Result T E) (old new : H) : Type 0 where
   pub moments : LeavesOnly clock might old new (λ left. P left ⊎ Q left)
-  pub synced : OnOk result (LeavesSince clock might Q old new)
-  pub or_not : OnErr result (LeavesSince clock might Q old new ⊎ LeavesOnly clock might old new P)
+  pub synced : OnOk result (LeavesAtLast clock might Q old new)
+  pub or_not : OnErr result (LeavesAtLast clock might Q old new ⊎ LeavesOnly clock might old new P)

@@ -9,7 +9,7 @@ ghost use Rattle.gated_log.specs.Fault.{FaultSays};
 ghost use Rattle.gated_log.specs.Front.{HasPayload};
 ghost use Rattle.gated_log.specs.Opening.{Opens};
 ghost use Rattle.gated_log.specs.Reading.{AnswersNext, HasRead, Moves};
-ghost use Rattle.gated_log.specs.State.{IsBegun, IsClosedAt, ReaderState};
+ghost use Rattle.gated_log.specs.State.{IsBegun, IsClosedAt, LogReaderState};
 ghost use Rattle.gated_log.specs.Stops.{AtFirst, AtOpening, IsOpening, LeavesImages, LeavesThen, WhileOpened};
 
 use crate::Log;
@@ -58,9 +58,9 @@ pub struct Reader {
 }
 
 impl Model for Reader {
-    ghost use Rattle.gated_log.specs.State.{ReaderState};
+    ghost use Rattle.gated_log.specs.State.{LogReaderState};
 
-    ghost Value = { ReaderState };
+    ghost Value = { LogReaderState };
 
     ghost view = { λ r. record { gate = r.gate; last = r.last; limit = r.limit; finished = r.finished } };
 }

@@ -12,6 +12,7 @@ use Rattle.std.proofs.lemmas.List.Kept.{IsStrictlySortedBy-filter}
 use Rattle.dl_base.specs.Tables.{TableRow, elem_cmp}
 use Rattle.dl_base.specs.declared.element.Elem.{Elem}
 use Rattle.dl_base.proofs.ElemLemmas.{elem_total}
+use Rattle.dl_base.proofs.PlaceLemmas.{kept_in, kept_is}
 use Rattle.dl_base.proofs.RisingLemmas.{contains_cases, contains_first, contains_later, all_contains}
 use Rattle.dl_base.proofs.RowLemmas.{none_rising}
 use Rattle.join_ops.specs.Joins.{SearchPlace, Start, Behind, Past, End, IsFound, IsBehindPlace, IsLast, AreLeft, StandsBehindFirst, Advances, SkipsAlike}
@@ -121,29 +122,6 @@ pub less_of : (r : Ordering) → is_lt r ≡ true → r ≡ Less
 less_of Less e = refl
 less_of Equal e = absurd cc
 less_of Greater e = absurd cc
-
--- what a filter keeps
-kept_is : {X : Type 0} (p : X → Bool) (xs : List X) (x : X) → Contains (filter p xs) x → Contains xs x × (p x ≡ true)
-kept_is p [] x c = absurd (omega (arith, c.1))
-kept_is {X} p (y ∷ ys) x c = by (p y) refl (kept_is p ys x) c
-  where
-    by : (b : Bool) → p y ≡ b → (Contains (filter p ys) x → Contains ys x × (p x ≡ true))
-        → Contains (if b then y ∷ filter p ys else filter p ys) x → Contains (y ∷ ys) x × (p x ≡ true)
-    by true e rest c = elim (contains_cases y (filter p ys) x c) [
-      | inl same ↦ (subst (λ (z : X). Contains (z ∷ ys) x) same (contains_first x ys), subst (λ (z : X). p z ≡ true) (sym same) e)
-      | inr d ↦ (let k = rest d in (contains_later y ys x k.0, k.1))
-    ]
-    by false e rest c = let k = rest c in (contains_later y ys x k.0, k.1)
-
-kept_in : {X : Type 0} (p : X → Bool) (xs : List X) (x : X) → Contains xs x → p x ≡ true → Contains (filter p xs) x
-kept_in p [] x c is = absurd (omega (arith, c.1))
-kept_in {X} p (y ∷ ys) x c is = by (p y) refl (λ d. kept_in p ys x d is) (contains_cases y ys x c)
-  where
-    by : (b : Bool) → p y ≡ b → (Contains ys x → Contains (filter p ys) x) → (x ≡ y) ⊎ Contains ys x → Contains (if b then y ∷ filter p ys else filter p ys) x
-    by true e rest (inl same) = subst (λ (z : X). Contains (z ∷ filter p ys) x) same (contains_first x (filter p ys))
-    by true e rest (inr d) = contains_later y (filter p ys) x (rest d)
-    by false e rest (inl same) = absurd (let out : p x ≡ false = subst (λ (z : X). p z ≡ false) (sym same) e in let both : true ≡ false = sym is ∙ out in cc)
-    by false e rest (inr d) = rest d
 
 -- what is left behind all that have so many first images as the last match
 pub past_left : (table : List TableRow) (conditions : List Condition) (fixed : List (Option ℕ)) (n : ℕ) (x : List Elem) (left : List (List Elem))

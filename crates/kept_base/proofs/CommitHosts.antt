@@ -8,7 +8,8 @@ use Rattle.dl_base.specs.Ontology.{Terminology}
 use Rattle.dl_base.specs.declared.row.NamedChange.{NamedChange}
 use Rattle.txn_codec.specs.Spelling.{changes_bytes}
 use Rattle.base_store.specs.History.{History, with_transaction}
-use Rattle.base_store.specs.Legal.{CanFollow, IsNamedBy}
+use Rattle.dl_base.specs.Numbers.{IsNamedBy}
+use Rattle.base_store.specs.Legal.{CanFollow}
 use Rattle.base_store.specs.Store.{HoldsEither, StandsFor, StandsForNext, StoreState}
 use Rattle.reply_text.specs.declared.reply.Reply.TheVariants as reply
 use Rattle.base_engine.specs.Calls.{DiskKeeps, HasKeptState, StepLeaves}

@@ -1,7 +1,7 @@
 -- A commit: what a base becomes, and that it takes a step.
 use Rattle.std.proofs.Common.{◌≡◌, ◌==◌, ◌≤◌, ◌+◌, ◌++◌, ◌∷◌, [], ℕ, Bool, true, false, List, All, Option, Some, None, length, refl, sym, ◌∙◌, ap, subst, arith, if◌then◌else◌, length-append}
 use Rattle.dl_base.specs.Completion.{IsLive}
-use Rattle.dl_base.specs.Numbers.{StandFor}
+use Rattle.dl_base.specs.Numbers.{IsNamedBy, StandFor}
 use Rattle.dl_base.specs.Ontology.{IsTerminology, Terminology}
 use Rattle.dl_base.specs.Query.{Question}
 use Rattle.dl_base.specs.Rows.{AreRows}
@@ -14,7 +14,7 @@ use Rattle.assert_tables.specs.Rows.{AreRisingRows}
 use Rattle.completion.specs.Named.{IsNamedCompletion}
 use Rattle.witness_book.specs.Witnesses.{generation_of}
 use Rattle.base_store.specs.History.{AreRowsAfter, History, Over, ontology_of, transaction_count, used, with_transaction}
-use Rattle.base_store.specs.Legal.{CanFollow, IsCrowded, IsNamedBy}
+use Rattle.base_store.specs.Legal.{CanFollow, IsCrowded}
 use Rattle.base_store.specs.Loaded.{HasRows}
 use Rattle.base_store.specs.Loading.{AreFew, FollowsChanges}
 use Rattle.base_store.proofs.AfterChanges.{changes_lead, changes_rise}

@@ -7,7 +7,7 @@ use Rattle.gen_arena.specs.Store.{ReservedStore}
 use Rattle.dl_base.specs.declared.row.NamedChange.{NamedChange}
 use Rattle.dl_base.specs.declared.row.Row.{Row}
 use Rattle.dl_base.proofs.PlaceLemmas.{place_stays}
-use Rattle.base_store.specs.Legal.{IsNamedBy}
+use Rattle.dl_base.specs.Numbers.{IsNamedBy}
 use Rattle.base_store.specs.Loading.{AreFew, FollowsChanges}
 use Rattle.base_store.specs.Store.{StoreState}
 use Rattle.base_store.proofs.AfterChanges.{changes_lead}

@@ -6,7 +6,7 @@ use Rattle.dl_base.specs.declared.row.NamedChange.{NamedChange}
 use Rattle.dl_base.specs.declared.row.NamedRow.{NamedRow}
 use Rattle.dl_base.specs.declared.row.NamedRow.TheVariants as row
 use Rattle.dl_base.proofs.PlaceLemmas.{member_at}
-use Rattle.base_store.specs.Legal.{IsNamedBy}
+use Rattle.dl_base.specs.Numbers.{IsNamedBy}
 use Rattle.reply_text.specs.declared.reply.Refusal.{Refusal}
 use Rattle.reply_text.specs.declared.reply.Refusal.TheVariants as refusal
 use Rattle.reply_text.specs.declared.reply.Reply.TheVariants as reply

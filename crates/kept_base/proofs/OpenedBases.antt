@@ -11,7 +11,7 @@ use Rattle.gated_log.proofs.LawLemmas.{fresh_has_no_header}
 use Rattle.dl_base.proofs.PlaceLemmas.{some_same}
 use Rattle.base_store.specs.Area.{HoldsHistory, IsDamaged, KeepsHistory, area_limit}
 use Rattle.base_store.specs.History.{History, transaction_count}
-use Rattle.base_store.specs.Loaded.{FaultSays, LoadsFrom}
+use Rattle.base_store.specs.Loaded.{LoadFaultSays, LoadsFrom}
 use Rattle.base_store.specs.Store.{StoreState}
 use Rattle.base_store.specs.declared.load.Loaded.{Loaded}
 use Rattle.base_store.specs.declared.load.LoadFault.{LoadFault}
@@ -133,7 +133,7 @@ reopen_moments clock might old new printed s d rest only = record {
 -- ---- damage
 
 -- what the store tells of an area that offends, handed on
-damage_told : {T : Type 0} (result : Result T EndFault) (f : LoadFault) → result ≡ Err (end_of_load f) → (at : ℕ) (area : List ℕ) → IsDamaged area at → FaultSays (IsDamaged area) f
+damage_told : {T : Type 0} (result : Result T EndFault) (f : LoadFault) → result ≡ Err (end_of_load f) → (at : ℕ) (area : List ℕ) → IsDamaged area at → LoadFaultSays (IsDamaged area) f
     → (result ≡ Err (end.Damaged 0 at)) ⊎ ((result ≡ Err end.DiskFault) ⊎ (result ≡ Err end.NoMemory))
 damage_told result load.DiskFault is at area damaged says = inr (inl is)
 damage_told result (load.Damaged number place) is at area damaged says =
@@ -141,7 +141,7 @@ damage_told result (load.Damaged number place) is at area damaged says =
     inl (is ∙ (λ i. Err (end.Damaged (says.0 i) (same i))))
 damage_told result load.NoMemory is at area damaged says = inr (inr is)
 
-pub damage_handed : {T : Type 0} (result : Result T EndFault) (f : LoadFault) → IsErrAnd result (λ e. e ≡ end_of_load f) → (at : ℕ) (area : List ℕ) → IsDamaged area at → FaultSays (IsDamaged area) f
+pub damage_handed : {T : Type 0} (result : Result T EndFault) (f : LoadFault) → IsErrAnd result (λ e. e ≡ end_of_load f) → (at : ℕ) (area : List ℕ) → IsDamaged area at → LoadFaultSays (IsDamaged area) f
     → (result ≡ Err (end.Damaged 0 at)) ⊎ ((result ≡ Err end.DiskFault) ⊎ (result ≡ Err end.NoMemory))
 damage_handed (Ok v) f is at area damaged says = absurd is
 damage_handed (Err e) f is at area damaged says = damage_told (Err e) f (ap (λ (x : EndFault). Err x) is) at area damaged says
@@ -159,7 +159,7 @@ not_damaged {T} result x y area at one two same other =
     other (sym same ∙ z)
 
 -- damage that the store tells is that of the first area, and so is what is handed on
-pub damage_first : {T : Type 0} (result : Result T EndFault) (f : LoadFault) → IsErrAnd result (λ e. e ≡ end_of_load f) → FaultSays (λ at. Unit {0}) f
+pub damage_first : {T : Type 0} (result : Result T EndFault) (f : LoadFault) → IsErrAnd result (λ e. e ≡ end_of_load f) → LoadFaultSays (λ at. Unit {0}) f
     → (area at : ℕ) → result ≡ Err (end.Damaged area at) → area ≡ 0
 damage_first (Ok v) f is says area at e = absurd is
 damage_first (Err x) load.DiskFault is says area at e = absurd (not_damaged (Err x) x end.DiskFault area at refl e is (λ z. cc))
@@ -184,12 +184,12 @@ module _ (stands : MachineState → Type 0) (old new : Option Disk) (kept : HasK
       by None none = untold none ∙ sym none
       by (Some d) told = rest_stays old new unwritten d told (kept d told).2.is_settled (kept_not_fresh d told)
 
-  pub reopen_damage : {T : Type 0} (result : Result T EndFault) (f : LoadFault) → IsErrAnd result (λ e. e ≡ end_of_load f) → ForSome old (λ d. FaultSays (IsDamaged d.first.reads) f)
+  pub reopen_damage : {T : Type 0} (result : Result T EndFault) (f : LoadFault) → IsErrAnd result (λ e. e ≡ end_of_load f) → ForSome old (λ d. LoadFaultSays (IsDamaged d.first.reads) f)
       → (area at : ℕ) → result ≡ Err (end.Damaged area at) → old ≡ None
   reopen_damage (Ok v) f is says area at e = absurd is
   reopen_damage (Err x) f is says area at e = by old refl f is says
     where
-      by : (o : Option Disk) → old ≡ o → (g : LoadFault) → x ≡ end_of_load g → ForSome old (λ d. FaultSays (IsDamaged d.first.reads) g) → old ≡ None
+      by : (o : Option Disk) → old ≡ o → (g : LoadFault) → x ≡ end_of_load g → ForSome old (λ d. LoadFaultSays (IsDamaged d.first.reads) g) → old ≡ None
       by None none g same told = none
       by (Some d) there load.DiskFault same told = absurd (not_damaged (Err x) x end.DiskFault area at refl e same (λ z. cc))
       by (Some d) there (load.Damaged number place) same told = absurd (let k = kept d there in keeps_or_is_damaged d.first.reads k.0.history place (inr k.2.held) (told d there).1)

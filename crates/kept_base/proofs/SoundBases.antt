@@ -3,11 +3,10 @@ use Rattle.std.proofs.Common.{◌≡◌, ◌==◌, ◌≤◌, ℕ, Bool, true, f
 use Rattle.std.proofs.lemmas.List.Elements.{All-push}
 use Rattle.dl_base.specs.Completion.{AreCompleted}
 use Rattle.dl_base.specs.Ontology.{Terminology}
-use Rattle.dl_base.specs.Numbers.{StandFor}
+use Rattle.dl_base.specs.Numbers.{IsNamedBy, StandFor}
 use Rattle.dl_base.specs.Rows.{AreRows}
 use Rattle.dl_base.specs.declared.row.NamedChange.{NamedChange}
 use Rattle.dl_base.specs.declared.row.NamedRow.{NamedRow}
-use Rattle.base_store.specs.Legal.{IsNamedBy}
 use Rattle.completion.specs.Named.{IsNamedCompletion}
 use Rattle.kept_base.specs.Base.{AreSoundChanges, BaseState, HasCompletedTables, IsSoundBase, StandsForState, generation_by, ontology_in, table_in}
 use Rattle.kept_base.specs.Doing.{CanAppend}

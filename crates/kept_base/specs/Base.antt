@@ -1,7 +1,7 @@
 -- What contracts see of a base, and the states that it stands for.
 use Rattle.std.specs.Prelude.{◌≡◌, ◌≤◌, ◌+◌, ℕ, List, [], length, All, Option, Some, None}
 use Rattle.dl_base.specs.Completion.{AreCompleted}
-use Rattle.dl_base.specs.Numbers.{StandFor}
+use Rattle.dl_base.specs.Numbers.{IsNamedBy, StandFor}
 use Rattle.dl_base.specs.Ontology.{Terminology}
 use Rattle.dl_base.specs.Query.{Question}
 use Rattle.dl_base.specs.Tables.{TableRow}
@@ -10,7 +10,6 @@ use Rattle.dl_base.specs.declared.row.NamedChange.{NamedChange}
 use Rattle.dl_base.specs.declared.row.NamedRow.{NamedRow}
 use Rattle.dl_base.specs.declared.row.Row.{Row}
 use Rattle.base_store.specs.History.{ontology_of, transaction_count, used}
-use Rattle.base_store.specs.Legal.{IsNamedBy}
 use Rattle.base_store.specs.Store.{StoreState}
 use Rattle.gen_arena.specs.Store.{HandleStore, IsHandleStore, Names}
 use Rattle.gen_arena.specs.declared.handle.Handle.{Handle}

@@ -7,7 +7,7 @@ use Rattle.dl_base.specs.declared.row.NamedRow.{NamedRow}
 use Rattle.gen_arena.specs.Store.{HandleStore}
 use Rattle.gen_arena.specs.declared.handle.Gone.{Gone}
 use Rattle.gen_arena.specs.declared.handle.Gone.TheVariants as gone
-use Rattle.base_store.specs.Legal.{IsNamedBy}
+use Rattle.dl_base.specs.Numbers.{IsNamedBy}
 use Rattle.reply_text.specs.declared.reply.Refusal.{Refusal}
 use Rattle.reply_text.specs.declared.reply.Refusal.TheVariants as refusal
 use Rattle.reply_text.specs.declared.reply.Reply.{Reply}

@@ -1,6 +1,6 @@
 //! The commands about sessions.
 ghost use Rattle.std.specs.Prelude.{◌≡◌, ◌<◌, ◌≤◌, ◌+◌, ℕ, List, None, Some, IfOk, OnErr, MatchOption};
-ghost use Rattle.base_store.specs.Legal.{IsNamedBy};
+ghost use Rattle.dl_base.specs.Numbers.{IsNamedBy};
 ghost use Rattle.dl_base.specs.Ontology.{Terminology as AnyTerminology};
 ghost use Rattle.dl_base.specs.declared.row.NamedChange.{NamedChange as AnyChange};
 ghost use Rattle.script_reader.specs.declared.command.Command.{Command as AnyCommand};

@@ -1,7 +1,7 @@
 //! What a base holds in memory, and how the changes of a session are made on it.
 ghost use Rattle.std.specs.Prelude.{◌≡◌, ◌<◌, ◌≤◌, [], All, IfOk, MatchOption, None, Some, length};
 ghost use Rattle.assert_tables.specs.Rows.{AreRisingRows};
-ghost use Rattle.base_store.specs.Legal.{IsNamedBy};
+ghost use Rattle.dl_base.specs.Numbers.{IsNamedBy};
 ghost use Rattle.base_store.specs.Loading.{AreFew};
 ghost use Rattle.base_store.specs.Store.{StoreState};
 ghost use Rattle.kept_base.specs.Base.{IsSoundBase, base_of, ontology_in};

@@ -3,7 +3,7 @@ use Rattle.std.proofs.Common.{◌≡◌, ◌↔◌, ◌⊎◌, ◌<◌, ◌≤�
 use Rattle.std.proofs.lemmas.List.{take_all, take_more}
 use Rattle.std.proofs.lemmas.List.Elements.{Contains-append_left, Contains-push}
 use Rattle.assert_tables.specs.Rows.{AreRisingRows, Gains, Loses}
-use Rattle.base_store.specs.Loading.{IsListOf}
+use Rattle.assert_tables.specs.Listing.{IsListOf}
 use Rattle.dl_base.specs.Rows.{numbered_row_cmp}
 use Rattle.dl_base.specs.declared.row.Row.{Row}
 use Rattle.dl_base.proofs.RisingLemmas.{same_rising}

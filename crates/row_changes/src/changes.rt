@@ -1,8 +1,7 @@
 //! Changes made on rows.
 ghost use Rattle.std.specs.Prelude.{◌≡◌, ◌≢◌, ◌≤◌, ◌+◌, ◌*◌, ◌++◌, List, All, AllPairs, IfOk, OnOk, length};
-ghost use Rattle.base_store.specs.Legal.{IsNamedBy};
 ghost use Rattle.base_store.specs.Loading.{FollowsChange, FollowsChanges};
-ghost use Rattle.dl_base.specs.Numbers.{IsPlaceOf};
+ghost use Rattle.dl_base.specs.Numbers.{IsNamedBy, IsPlaceOf};
 ghost use Rattle.dl_base.specs.Ontology.{IsTerminology};
 ghost use Rattle.dl_base.specs.declared.row.Row.{Row as AnyRow};
 ghost use Rattle.row_changes.specs.Difference.{IsDifference};
@@ -10,7 +9,6 @@ ghost use Rattle.row_changes.specs.Difference.{IsDifference};
 use crate::difference::Difference;
 use crate::numbers::{known, number};
 use assert_tables::Assertions;
-use base_store::place_of;
 use dl_base::{NameBook, NamedChange, Ontology};
 use std::alloc::{AllocError, Global};
 
@@ -69,7 +67,7 @@ fn make_change(
     ensures few { OnOk result (length made.new.newcomers ≤ 2 + length made.old.newcomers) }
     ensures distinct { OnOk result (AllPairs (λ x y. x ≢ y) (individuals.now ++ made.new.newcomers)) }
 {
-    let Some(place) = place_of(ontology, &change.row) else {
+    let Some(place) = ontology.place_of(&change.row) else {
         unreachable!();
     };
     if change.add {

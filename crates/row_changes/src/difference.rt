@@ -4,8 +4,7 @@ ghost use Rattle.assert_tables.specs.Rows.{AreRisingRows, Gains, Loses};
 ghost use Rattle.dl_base.specs.declared.row.Row.{Row as AnyRow};
 ghost use Rattle.row_changes.specs.Difference.{AddsEach, IsDifference, RemovesEach};
 
-use assert_tables::Assertions;
-use base_store::listed;
+use assert_tables::{Assertions, listed};
 use dl_base::Row;
 use std::alloc::{AllocError, Global};
 

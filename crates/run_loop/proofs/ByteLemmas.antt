@@ -5,7 +5,7 @@ use Rattle.std.proofs.lemmas.List.{append-nil, map-append, length-map, length-ta
 use Rattle.host_io.specs.Disk.{Disk}
 use Rattle.host_io.specs.Moments.{Left}
 use Rattle.axiom_reader.specs.Block.{Progress}
-use Rattle.script_reader.specs.Feeding.{LineSoFar, begun, kept, Tells, TellsLast}
+use Rattle.script_reader.specs.Feeding.{LineSoFar, begun, kept, TellsFed, TellsLast}
 use Rattle.script_reader.specs.Lines.{HasNoEnd, IsCut, given, last_line}
 use Rattle.script_reader.specs.Requests.{Token, Is, Finished, Begun, HoldsRequests, AreRequests}
 use Rattle.script_reader.specs.declared.lines.Fed.{Fed}
@@ -64,7 +64,7 @@ ended_cut bytes rest text pieces f old new c is none now line =
       tokens_are = ap (λ (l : List Token). tokens_of pieces ++ l) (line ∙ ap (λ (x : Option (List ℕ)). Is x ∷ []) same) ∙ sym (map-append (λ piece. Is (given piece)) pieces ((rest ++ text) ∷ []));
     }
 
-pub fed_cut : (bytes rest input : List ℕ) (pieces : List (List ℕ)) (count : ℕ) (f : Fed) (old new : LineSoFar) → IsCut bytes pieces rest → begun old ≡ kept rest → Tells old input count f new → IsFedCut (bytes ++ take count input) pieces f new
+pub fed_cut : (bytes rest input : List ℕ) (pieces : List (List ℕ)) (count : ℕ) (f : Fed) (old new : LineSoFar) → IsCut bytes pieces rest → begun old ≡ kept rest → TellsFed old input count f new → IsFedCut (bytes ++ take count input) pieces f new
 fed_cut bytes rest input pieces count fed.More old new c is g =
     let all : take count input ≡ input = take_all count input (omega (arith, g.all)) in
     subst (λ (l : List ℕ). IsFedCut (bytes ++ l) pieces fed.More new) (sym all) (record {
@@ -79,7 +79,7 @@ fed_cut bytes rest input pieces count fed.Line old new c is (e, line) =
 fed_cut bytes rest input pieces count fed.TooLong old new c is (e, line) =
     subst (λ (l : List ℕ). IsFedCut (bytes ++ l) pieces fed.TooLong new) (sym e.taken) (ended_cut bytes rest e.text pieces fed.TooLong old new c is e.no_end e.now refl)
 
-pub fed_told : (input : List ℕ) (count : ℕ) (f : Fed) (old new : LineSoFar) → Tells old input count f new → IsTold f new.bytes
+pub fed_told : (input : List ℕ) (count : ℕ) (f : Fed) (old new : LineSoFar) → TellsFed old input count f new → IsTold f new.bytes
 fed_told input count fed.More old new g = tt
 fed_told input count fed.Line old new (e, line) = line
 fed_told input count fed.TooLong old new (e, line) = line
@@ -149,7 +149,7 @@ first_longer bytes more ended requests f = record {
 module _ {H : Type 0} (disk : H → Option Disk) (printed : H → Option (List ℕ)) (clock : H → ℕ) (might : H → ℕ → Left → Type 0) (start : H) where
   module _ (stands : MachineState → Type 0) (a : Opening) (read : List ℕ) (old : LineSoFar) (block : Option Progress) (host : H) (t : TakesBytes disk printed clock might start stands a read old block host) where
     -- bytes were fed, and what came of them was taken
-    module _ (input : List ℕ) (count : ℕ) (f : Fed) (new : LineSoFar) (tells : Tells old input count f new) where
+    module _ (input : List ℕ) (count : ℕ) (f : Fed) (new : LineSoFar) (tells : TellsFed old input count f new) where
       fed_now : IsFedCut (read ++ take count input) t.pieces f new
       fed_now = fed_cut read t.rest input t.pieces count f old new t.cut t.line_is tells
 

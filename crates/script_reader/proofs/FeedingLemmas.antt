@@ -4,7 +4,7 @@ use Rattle.std.specs.Prelude.{nat_lt}
 use Rattle.std.proofs.lemmas.Bool.{ltb-true, ltb-false}
 use Rattle.std.proofs.lemmas.List.{take_all}
 use Rattle.script_reader.specs.Lines.{HasNoEnd, line_of, given}
-use Rattle.script_reader.specs.Feeding.{LineSoFar, kept, begun, told, IsBehind, EndsWithin, Tells, FeedsLine, KeptGivesLine}
+use Rattle.script_reader.specs.Feeding.{LineSoFar, kept, begun, told, IsBehind, EndsWithin, TellsFed, FeedsLine, KeptGivesLine}
 use Rattle.script_reader.specs.declared.lines.Fed.{Fed}
 use Rattle.script_reader.specs.declared.lines.Fed.TheVariants as fed
 use Rattle.script_reader.proofs.LineLemmas.{FoundEnd, cut_ends, cut_goes_on, kept_more, stands}
@@ -98,7 +98,7 @@ never_more : (o : Option (List ℕ)) → fed.More ≡ told o → ⊥
 never_more None e = cc
 never_more (Some l) e = cc
 
-tells_end : (old new : LineSoFar) (input : List ℕ) (count : ℕ) (f : Fed) → EndsWithin old input count new → f ≡ told (given new.bytes) → Tells old input count f new
+tells_end : (old new : LineSoFar) (input : List ℕ) (count : ℕ) (f : Fed) → EndsWithin old input count new → f ≡ told (given new.bytes) → TellsFed old input count f new
 tells_end old new input count fed.More ends e = absurd (never_more (given new.bytes) e)
 tells_end old new input count fed.Line ends e = (ends, sym e)
 tells_end old new input count fed.TooLong ends e = (ends, sym e)

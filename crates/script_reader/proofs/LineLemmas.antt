@@ -10,7 +10,7 @@ use Rattle.std.proofs.Math.Seq.{take-append-add}
 use Rattle.dl_base.proofs.DerivationLemmas.{all-by}
 use Rattle.script_reader.proofs.ListLemmas.{all_joined, all_push}
 use Rattle.script_reader.specs.Lines.{HasNoEnd, IsCut, AreLines, line_of, last_line}
-use Rattle.script_reader.specs.Feeding.{kept, StandsFor}
+use Rattle.script_reader.specs.Feeding.{kept, StandsForLine}
 
 -- ---- the first line end
 
@@ -243,18 +243,18 @@ kept_more old text = elim (cases_order (length old) 4098) [
   ]
 ]
 
-pub stands : (bytes : List ℕ) → StandsFor (kept bytes) (line_of bytes)
+pub stands : (bytes : List ℕ) → StandsForLine (kept bytes) (line_of bytes)
 stands bytes = elim (cases_order (length bytes) 4099) [
   | inl e ↦ long (omega arith)
   | inr either ↦ elim either [
     | inl below ↦
         let same : kept bytes ≡ bytes = take_all 4098 bytes (omega arith) in
-        subst (λ (l : List ℕ). StandsFor l (line_of bytes)) (sym same) (record { long = λ h. h; short = λ h. refl })
+        subst (λ (l : List ℕ). StandsForLine l (line_of bytes)) (sym same) (record { long = λ h. h; short = λ h. refl })
     | inr above ↦ long (omega arith)
   ]
 ]
   where
-    long : 4098 < length bytes → StandsFor (kept bytes) (line_of bytes)
+    long : 4098 < length bytes → StandsForLine (kept bytes) (line_of bytes)
     long h =
         let full : length (kept bytes) ≡ 4098 = length-take-le 4098 bytes (omega arith) in
         record {

@@ -52,16 +52,16 @@ pub record EndsWithin (old : LineSoFar) (input : List ℕ) (count : ℕ) (new : 
   pub now : new ≡ record { bytes = kept (begun old ++ text); ended = true }
 
 -- what is told of the bytes that were taken
-abbrev pub Tells : LineSoFar → List ℕ → ℕ → Fed → LineSoFar → Type 0
-Tells old input count fed.More new = GoesOnOver old input count new
-Tells old input count fed.Line new = EndsWithin old input count new × (told (given new.bytes) ≡ fed.Line)
-Tells old input count fed.TooLong new = EndsWithin old input count new × (told (given new.bytes) ≡ fed.TooLong)
+abbrev pub TellsFed : LineSoFar → List ℕ → ℕ → Fed → LineSoFar → Type 0
+TellsFed old input count fed.More new = GoesOnOver old input count new
+TellsFed old input count fed.Line new = EndsWithin old input count new × (told (given new.bytes) ≡ fed.Line)
+TellsFed old input count fed.TooLong new = EndsWithin old input count new × (told (given new.bytes) ≡ fed.TooLong)
 
 -- bytes of the input are taken through the first line end, or all
 pub record FeedsLine (old : LineSoFar) (input : List ℕ) (count : ℕ) (f : Fed) (new : LineSoFar) : Type 0 where
   pub within : count ≤ length input
   pub some : 0 < length input → 0 < count
-  pub tells : Tells old input count f new
+  pub tells : TellsFed old input count f new
   pub so_far : (bytes : List ℕ) → IsBehind bytes old → IsBehind (bytes ++ take count input) new
 
 -- the input has ended: the bytes behind its last line end are a line where there are some
@@ -71,7 +71,7 @@ TellsLast old fed.Line new = (0 < length (begun old)) × (new ≡ record { bytes
 TellsLast old fed.TooLong new = (0 < length (begun old)) × (new ≡ record { bytes = begun old; ended = true }) × (told (given new.bytes) ≡ fed.TooLong)
 
 -- what is kept stands for this line: it is the line, or both are too long
-pub record StandsFor (bytes text : List ℕ) : Type 0 where
+pub record StandsForLine (bytes text : List ℕ) : Type 0 where
   pub long : 4096 < length (line_of bytes) → 4096 < length text
   pub short : length (line_of bytes) ≤ 4096 → line_of bytes ≡ text
 

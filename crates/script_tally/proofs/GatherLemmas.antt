@@ -6,7 +6,7 @@ use Rattle.std.proofs.lemmas.List.Elements.{All-append, All-nil}
 use Rattle.dl_base.specs.Ontology.{Terminology}
 use Rattle.axiom_reader.specs.Block.{Line, IsProgressOf, Progress, BlockGives}
 use Rattle.axiom_reader.specs.declared.block.BlockError.{BlockError}
-use Rattle.script_reader.specs.Feeding.{LineSoFar, begun, Tells, TellsLast}
+use Rattle.script_reader.specs.Feeding.{LineSoFar, begun, TellsFed, TellsLast}
 use Rattle.script_reader.specs.Lines.{last_line}
 use Rattle.script_reader.specs.Requests.{Token, Is, Finished, Part, Skipped, Single, Block, End, spelled, asked, Asks, Begun, begun_lines, ClosesBlock, EndsBlock, HoldsRequests, OpensBlock, SaysNothing}
 use Rattle.script_reader.specs.declared.lines.Fed.{Fed}
@@ -106,7 +106,7 @@ module _ (read : List ℕ) (old : LineSoFar) (requests : List Request) (block : 
   gathered_few few = omega (arith, few, tokens_few read g.rest g.pieces g.cut)
 
   -- bytes were fed, and what came of them was taken
-  pub bytes_gathered : (input : List ℕ) (count : ℕ) (f : Fed) (new : LineSoFar) → Tells old input count f new → (requests' : List Request) (block' : Option Progress) → Gathers (tokens_of g.pieces ++ lines_of f new.bytes) requests' block'
+  pub bytes_gathered : (input : List ℕ) (count : ℕ) (f : Fed) (new : LineSoFar) → TellsFed old input count f new → (requests' : List Request) (block' : Option Progress) → Gathers (tokens_of g.pieces ++ lines_of f new.bytes) requests' block'
       → GathersBytes (read ++ take count input) new requests' block'
   bytes_gathered input count f new tells requests' block' gathers =
       let c = fed_cut read g.rest input g.pieces count f old new g.cut g.line_is tells in

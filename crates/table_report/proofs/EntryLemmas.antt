@@ -15,7 +15,7 @@ use Rattle.dl_base.proofs.RowLemmas.{ends_of_row}
 use Rattle.completion.specs.Completed.{Completion}
 use Rattle.completion.specs.Named.{IsNamedCompletion}
 use Rattle.witness_book.specs.Witnesses.{generation_of}
-use Rattle.table_report.specs.TableLines.{Member, NamedIndividual, WitnessBy, Entry, WitnessEntry, ConceptEntry, RoleEntry, named_role, node_member, IsLiveAt, IsInConcept, AreLinked, Holds, entry_cmp, entry_text, AreTableLines}
+use Rattle.table_report.specs.TableLines.{Member, NamedIndividual, WitnessBy, Entry, WitnessEntry, ConceptEntry, RoleEntry, named_role, node_member, IsLiveAt, IsInConcept, AreLinked, HoldsEntry, entry_cmp, entry_text, AreTableLines}
 use Rattle.table_report.specs.Gathered.{both, elem_member, row_entry, witness_entry, IsOfLive, IsOfConcept, IsOfRole, IsGathered, entry_of}
 use Rattle.table_report.specs.declared.entry.EntryRef.{EntryRef}
 use Rattle.table_report.proofs.LookupLemmas.{mapped, both_parts}
@@ -58,16 +58,16 @@ module _ (o : Terminology) (names : List (List ℕ)) (rows : List NamedRow) (c :
 
   -- ---- what is gathered holds
 
-  live_holds : (r : Role) (x : Entry) → IsOfLive o c.book r x → Holds o rows generation x
+  live_holds : (r : Role) (x : Entry) → IsOfLive o c.book r x → HoldsEntry o rows generation x
   live_holds r x (live, is) =
       let named = mapped (λ n. WitnessEntry n (generation r)) (named_role o r) x is in
-      subst (Holds o rows generation) (sym named.2) (record { role = r; name = named.1; live = (are.live r).0 live; generation_is = refl })
+      subst (HoldsEntry o rows generation) (sym named.2) (record { role = r; name = named.1; live = (are.live r).0 live; generation_is = refl })
 
-  concept_holds : (k : ℕ) (x : Entry) → IsOfConcept o names c.rows k x → Holds o rows generation x
+  concept_holds : (k : ℕ) (x : Entry) → IsOfConcept o names c.rows k x → HoldsEntry o rows generation x
   concept_holds k x (e, there, is) =
       let parts = both_parts ConceptEntry (slice_get o.concepts k) (elem_member o names e) x is in
       let completed = (are.tables.each (ConceptRow k e)).0 there in
-      subst (Holds o rows generation) (sym parts.4) (record {
+      subst (HoldsEntry o rows generation) (sym parts.4) (record {
         place = k;
         name = parts.2;
         node = completed.node;
@@ -76,13 +76,13 @@ module _ (o : Terminology) (names : List (List ℕ)) (rows : List NamedRow) (c :
         derived = completed.derived;
       })
 
-  role_holds : (p : ℕ) (x : Entry) → IsOfRole o names c.rows p x → Holds o rows generation x
+  role_holds : (p : ℕ) (x : Entry) → IsOfRole o names c.rows p x → HoldsEntry o rows generation x
   role_holds p x (e, (f, there, is)) =
       let parts = both_parts (λ (role : List ℕ) (ends : Member × Member). RoleEntry role ends.0 ends.1) (slice_get o.roles p) (both (λ (m n : Member). (m, n)) (elem_member o names e) (elem_member o names f)) x is in
       let ends = both_parts (λ (m n : Member). (m, n)) (elem_member o names e) (elem_member o names f) parts.1 parts.3 in
       let completed = (are.tables.each (RoleRow p e f)).0 there in
       let is_entry : x ≡ RoleEntry parts.0 ends.0 ends.1 = parts.4 ∙ ap (λ (z : Member × Member). RoleEntry parts.0 z.0 z.1) ends.4 in
-      subst (Holds o rows generation) (sym is_entry) (record {
+      subst (HoldsEntry o rows generation) (sym is_entry) (record {
         place = p;
         name = parts.2;
         from = completed.from;
@@ -92,7 +92,7 @@ module _ (o : Terminology) (names : List (List ℕ)) (rows : List NamedRow) (c :
         leads = completed.leads;
       })
 
-  gathered_holds : (x : Entry) → IsGathered o names c.book c.rows x → Holds o rows generation x
+  gathered_holds : (x : Entry) → IsGathered o names c.book c.rows x → HoldsEntry o rows generation x
   gathered_holds x (inl (r, live)) = live_holds r x live
   gathered_holds x (inr (inl (k, found))) = concept_holds k x found
   gathered_holds x (inr (inr (p, found))) = role_holds p x found
@@ -131,7 +131,7 @@ module _ (o : Terminology) (names : List (List ℕ)) (rows : List NamedRow) (c :
       λ j. both (λ (role : List ℕ) (z : Member × Member). RoleEntry role z.0 z.1) (name j) (both (λ (x y : Member). (x, y)) (from j) (to j)) in
       inr (inr (h.place, (e.0, (f.0, (are.tables.each (RoleRow h.place e.0 f.0)).1 completes, is))))
 
-  holds_gathered : (x : Entry) → Holds o rows generation x → IsGathered o names c.book c.rows x
+  holds_gathered : (x : Entry) → HoldsEntry o rows generation x → IsGathered o names c.book c.rows x
   holds_gathered (WitnessEntry r g) h = live_gathered r g h
   holds_gathered (ConceptEntry k m) h = concept_gathered k m h
   holds_gathered (RoleEntry p m n) h = role_gathered p m n h

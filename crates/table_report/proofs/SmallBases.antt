@@ -26,7 +26,7 @@ use Rattle.dl_base.proofs.RisingLemmas.{contains_cases, all_contains}
 use Rattle.dl_base.proofs.SmallOntologies.{among, derived_among, respects}
 use Rattle.reply_text.specs.ReplyText.{behind_spaces}
 use Rattle.table_report.specs.Laws.{LinesOfSuccessor, LinesBothWays, both_ways}
-use Rattle.table_report.specs.TableLines.{Member, NamedIndividual, WitnessBy, Entry, WitnessEntry, ConceptEntry, RoleEntry, entry_cmp, named_role, node_member, IsLiveAt, IsInConcept, AreLinked, Holds}
+use Rattle.table_report.specs.TableLines.{Member, NamedIndividual, WitnessBy, Entry, WitnessEntry, ConceptEntry, RoleEntry, entry_cmp, named_role, node_member, IsLiveAt, IsInConcept, AreLinked, HoldsEntry}
 
 -- ---- what the rows say
 
@@ -162,10 +162,10 @@ module _ (inclusions : List Inclusion) (inverse : Bool) (says : Contains inclusi
       no_row true p b there = no_role p b (codes "a") there
       no_row false p b there = no_role p (codes "a") b there
 
-  pub live_holds : Holds (with_inclusions inclusions) only_a ones (WitnessEntry (named_r inverse) 1)
+  pub live_holds : HoldsEntry (with_inclusions inclusions) only_a ones (WitnessEntry (named_r inverse) 1)
   live_holds = record { role = role_r inverse; name = refl; live = first (codes "a") a_points; generation_is = refl }
 
-pub concept_holds : (inclusions : List Inclusion) → Holds (with_inclusions inclusions) only_a ones (ConceptEntry (codes "A") (NamedIndividual (codes "a")))
+pub concept_holds : (inclusions : List Inclusion) → HoldsEntry (with_inclusions inclusions) only_a ones (ConceptEntry (codes "A") (NamedIndividual (codes "a")))
 concept_holds inclusions = record {
   place = 0;
   name = refl;
@@ -176,11 +176,11 @@ concept_holds inclusions = record {
 }
 
 direct_holds : (inclusions : List Inclusion) → Contains inclusions (implies (basic.Concept 0) (head.Basic (basic.Exists (role_r false))))
-    → Holds (with_inclusions inclusions) only_a ones (RoleEntry (codes "r") (NamedIndividual (codes "a")) (WitnessBy (named_r false)))
+    → HoldsEntry (with_inclusions inclusions) only_a ones (RoleEntry (codes "r") (NamedIndividual (codes "a")) (WitnessBy (named_r false)))
 direct_holds inclusions says = record { place = 0; name = refl; from = Individual (codes "a"); to = WitnessOf (role_r false); from_is = refl; to_is = refl; leads = inr (inl (refl, a_points inclusions false says)) }
 
 inverse_holds : (inclusions : List Inclusion) → Contains inclusions (implies (basic.Concept 0) (head.Basic (basic.Exists (role_r true))))
-    → Holds (with_inclusions inclusions) only_a ones (RoleEntry (codes "r") (WitnessBy (named_r true)) (NamedIndividual (codes "a")))
+    → HoldsEntry (with_inclusions inclusions) only_a ones (RoleEntry (codes "r") (WitnessBy (named_r true)) (NamedIndividual (codes "a")))
 inverse_holds inclusions says = record { place = 0; name = refl; from = WitnessOf (role_r true); to = Individual (codes "a"); from_is = refl; to_is = refl; leads = inr (inr (refl, a_points inclusions true says)) }
 
 one : codes "1" ≡ decimal 1
@@ -203,7 +203,7 @@ not_inverted there = elim (contains_cases (basic.Concept 0) (direct ∷ []) inve
 abbrev three : List Entry
 three = WitnessEntry (named_r false) 1 ∷ ConceptEntry (codes "A") (NamedIndividual (codes "a")) ∷ RoleEntry (codes "r") (NamedIndividual (codes "a")) (WitnessBy (named_r false)) ∷ []
 
-one_way : (x : Entry) → Holds successors only_a ones x → Contains three x
+one_way : (x : Entry) → HoldsEntry successors only_a ones x → Contains three x
 one_way (WitnessEntry s g) h =
     let found = live_is successors.inclusions (basic.Concept 0 ∷ direct ∷ []) refl refl (λ s. refl) s g h in
     by found.0 found.1 found.2 found.3
@@ -217,8 +217,8 @@ one_way (RoleEntry p x y) h = elim (link_is successors.inclusions (basic.Concept
   | inr (is, there) ↦ absurd (not_inverted there)
 ]
 
-three_hold : (x : Entry) → Contains three x → Holds successors only_a ones x
-three_hold x there = all_contains (Holds successors only_a ones) three x
+three_hold : (x : Entry) → Contains three x → HoldsEntry successors only_a ones x
+three_hold x there = all_contains (HoldsEntry successors only_a ones) three x
     (live_holds successors.inclusions false (first_item _ []), (concept_holds successors.inclusions, (direct_holds successors.inclusions (first_item _ []), tt))) there
 
 three_rise : IsStrictlySortedBy entry_cmp three
@@ -239,7 +239,7 @@ abbrev five : List Entry
 five = WitnessEntry (named_r false) 1 ∷ WitnessEntry (named_r true) 1 ∷ ConceptEntry (codes "A") (NamedIndividual (codes "a"))
     ∷ RoleEntry (codes "r") (NamedIndividual (codes "a")) (WitnessBy (named_r false)) ∷ RoleEntry (codes "r") (WitnessBy (named_r true)) (NamedIndividual (codes "a")) ∷ []
 
-two_ways : (x : Entry) → Holds both_ways only_a ones x → Contains five x
+two_ways : (x : Entry) → HoldsEntry both_ways only_a ones x → Contains five x
 two_ways (WitnessEntry s g) h =
     let found = live_is both_ways.inclusions (basic.Concept 0 ∷ direct ∷ inverted ∷ []) refl refl (λ s. refl) s g h in
     by found.0 found.1 found.2
@@ -253,8 +253,8 @@ two_ways (RoleEntry p x y) h = elim (link_is both_ways.inclusions (basic.Concept
   | inr (is, there) ↦ subst (Contains five) (sym is) (4, omega arith, refl)
 ]
 
-five_hold : (x : Entry) → Contains five x → Holds both_ways only_a ones x
-five_hold x there = all_contains (Holds both_ways only_a ones) five x (
+five_hold : (x : Entry) → Contains five x → HoldsEntry both_ways only_a ones x
+five_hold x there = all_contains (HoldsEntry both_ways only_a ones) five x (
   live_holds both_ways.inclusions false (0, omega arith, refl),
   (
     live_holds both_ways.inclusions true (1, omega arith, refl),

@@ -89,10 +89,10 @@ pub record AreLinked (o : Terminology) (rows : List NamedRow) (role : List ℕ) 
   pub leads : RoleLeads o rows place from to
 
 -- the entry holds of the completed tables of the base, each witness in the generation of its role
-abbrev pub Holds : Terminology → List NamedRow → (Role → ℕ) → Entry → Type 0
-Holds o rows generation (WitnessEntry r g) = IsLiveAt o rows generation r g
-Holds o rows generation (ConceptEntry c m) = IsInConcept o rows c m
-Holds o rows generation (RoleEntry p x y) = AreLinked o rows p x y
+abbrev pub HoldsEntry : Terminology → List NamedRow → (Role → ℕ) → Entry → Type 0
+HoldsEntry o rows generation (WitnessEntry r g) = IsLiveAt o rows generation r g
+HoldsEntry o rows generation (ConceptEntry c m) = IsInConcept o rows c m
+HoldsEntry o rows generation (RoleEntry p x y) = AreLinked o rows p x y
 
 -- ---- the lines
 
@@ -111,5 +111,5 @@ entry_text (RoleEntry p x y) = codes "role" ++ behind_spaces (p ∷ member_text 
 pub record AreTableLines (o : Terminology) (rows : List NamedRow) (generation : Role → ℕ) (lines : List (List ℕ)) : Type 0 where
   pub entries : List Entry
   pub rising : IsStrictlySortedBy entry_cmp entries
-  pub each : (e : Entry) → Contains entries e ↔ Holds o rows generation e
+  pub each : (e : Entry) → Contains entries e ↔ HoldsEntry o rows generation e
   pub texts : lines ≡ map entry_text entries

@@ -11,7 +11,7 @@ use Rattle.dl_base.proofs.RowLemmas.{contains_cut}
 use Rattle.query_shape.specs.TreeWitness.{IsOriented, TreeWitness, top, first, back, further, HasTreeWitness}
 use Rattle.query_shape.specs.declared.layout.ShapeAtom.{ShapeAtom}
 use Rattle.dl_base.proofs.PlaceLemmas.{map_from, place_of, one_place, member_at}
-use Rattle.tree_witness.specs.Trees.{oriented_atoms, IsOrientedBelow, IsStep, CanStep, HasTerm, Extends, IsThere, IsOpen, IsGrown, IsNext, IsTreeOf}
+use Rattle.tree_witness.specs.Trees.{oriented_atoms, IsOrientedBelow, IsStep, CanStep, HasTerm, ExtendsTree, IsThere, IsOpen, IsGrown, IsNext, IsTreeOf}
 use Rattle.tree_witness.specs.declared.oriented.OrientedAtom.{OrientedAtom}
 use Rattle.tree_witness.specs.declared.tree.ReachedTerm.{ReachedTerm}
 use Rattle.tree_witness.proofs.OrientedAtomLemmas.{oriented_from, oriented_there}
@@ -110,7 +110,7 @@ module _ (terms : ℕ) (oriented : List OrientedAtom) (root : OrientedAtom) (tre
       (oriented_from atoms a (subst (λ (as' : List OrientedAtom). Contains as' a) is there)) step
 
   -- one term more
-  pub growing_more : (place : ℕ) (a : OrientedAtom) (added : ReachedTerm) → All (IsOrientedBelow terms) oriented → IsNext oriented root.role tree place a → (HasTerm tree a.to → ⊥) → Extends root.role tree place a added
+  pub growing_more : (place : ℕ) (a : OrientedAtom) (added : ReachedTerm) → All (IsOrientedBelow terms) oriented → IsNext oriented root.role tree place a → (HasTerm tree a.to → ⊥) → ExtendsTree root.role tree place a added
       → IsGrowing terms oriented root (tree ++ added ∷ [])
   growing_more place a added below (above, at, (there, leads)) new (other, at_other, to_is, step) = record {
     top = Contains-append_left tree (added ∷ []) (record { term = root.from; roles = [] }) growing.top;

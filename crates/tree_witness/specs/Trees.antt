@@ -71,8 +71,8 @@ abbrev pub CanExtend : Role → List ReachedTerm → ℕ → OrientedAtom → Ty
 CanExtend root tree place a = (above : ReachedTerm) × (slice_get tree place ≡ Some above) × CanStep root above.roles a.role
 
 -- what it leads to from there
-abbrev pub Extends : Role → List ReachedTerm → ℕ → OrientedAtom → ReachedTerm → Type 0
-Extends root tree place a h = (above : ReachedTerm) × (slice_get tree place ≡ Some above) × (h.term ≡ a.to) × IsStep root above.roles a.role h.roles
+abbrev pub ExtendsTree : Role → List ReachedTerm → ℕ → OrientedAtom → ReachedTerm → Type 0
+ExtendsTree root tree place a h = (above : ReachedTerm) × (slice_get tree place ≡ Some above) × (h.term ≡ a.to) × IsStep root above.roles a.role h.roles
 
 -- ---- trees
 

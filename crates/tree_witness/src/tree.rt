@@ -1,7 +1,7 @@
 //! The tree witness of an oriented atom.
 ghost use Rattle.std.specs.Prelude.{◌≡◌, ◌↔◌, ◌<◌, ℕ, All, Contains, IfOk, IsTrue, MatchOption};
 ghost use Rattle.std.specs.Bool.{OnFalse, OnTrue};
-ghost use Rattle.tree_witness.specs.Trees.{IsOrientedBelow, IsThere, IsGrown, IsOpen, IsShut, IsNextAtom, IsNext, IsTreeOf, IsTreeBelow, HasTerm, CanExtend, Extends};
+ghost use Rattle.tree_witness.specs.Trees.{IsOrientedBelow, IsThere, IsGrown, IsOpen, IsShut, IsNextAtom, IsNext, IsTreeOf, IsTreeBelow, HasTerm, CanExtend, ExtendsTree};
 ghost use Rattle.tree_witness.specs.declared.oriented.OrientedAtom.{OrientedAtom as AnyAtom};
 
 use crate::oriented::OrientedAtom;
@@ -63,7 +63,7 @@ fn extended(
     next: Next,
 ) -> Result<ReachedTerm, AllocError>
     requires { CanExtend root tree.now next.place next.atom }
-    ensures { IfOk result (Extends root tree.now next.place next.atom) }
+    ensures { IfOk result (ExtendsTree root tree.now next.place next.atom) }
 {
     let above = &tree[next.place];
     let roles = stepped(alloc, root, above.roles.items(), next.atom.role)?;

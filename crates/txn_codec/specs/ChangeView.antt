@@ -6,9 +6,9 @@ use Rattle.txn_codec.specs.declared.change_view.RowView.{RowView}
 use Rattle.txn_codec.specs.declared.change_view.RowView.TheVariants as views
 use Rattle.txn_codec.specs.declared.change_view.ChangeView.{ChangeView}
 
-abbrev pub row_of : RowView → NamedRow
-row_of (views.Concept concept individual) = rows.Concept concept individual
-row_of (views.Role role from to) = rows.Role role from to
+abbrev pub row_viewed : RowView → NamedRow
+row_viewed (views.Concept concept individual) = rows.Concept concept individual
+row_viewed (views.Role role from to) = rows.Role role from to
 
-abbrev pub change_of : ChangeView → NamedChange
-change_of change = record { add = change.add; row = row_of change.row }
+abbrev pub change_viewed : ChangeView → NamedChange
+change_viewed change = record { add = change.add; row = row_viewed change.row }

@@ -6,7 +6,7 @@ ghost use Rattle.grammar.specs.Reading.{whole};
 ghost use Rattle.dl_base.specs.declared.row.NamedChange.{NamedChange};
 ghost use Rattle.txn_codec.specs.Changes.{changes_payload};
 ghost use Rattle.txn_codec.specs.ChangesReading.{sign_at, row_at, change_at, changes_at};
-ghost use Rattle.txn_codec.specs.ChangeView.{row_of, change_of};
+ghost use Rattle.txn_codec.specs.ChangeView.{row_viewed, change_viewed};
 ghost use Rattle.txn_codec.specs.Fault.{NamesChangesFault};
 ghost use Rattle.txn_codec.specs.PiecesReading.{times_at};
 ghost use Rattle.txn_codec.specs.Skimming.{Skims, behind};
@@ -34,7 +34,7 @@ fn skim_sign(text: &[u8]) -> Result<(bool, &[u8]), Stop>
 /// A row behind the number of its names.
 #[tactic(auto, unfolding(crate::specs::ChangesReading::row_at))]
 fn skim_row(text: &[u8]) -> Result<(RowView<'_>, &[u8]), Stop>
-    ensures { Skims (λ x. (row_of x.0, x.1.now)) result (row_at text.now) }
+    ensures { Skims (λ x. (row_viewed x.0, x.1.now)) result (row_at text.now) }
 {
     if next_is_byte(2, text) {
         let rest = skim_byte(2, text)?;
@@ -58,7 +58,7 @@ fn skim_row(text: &[u8]) -> Result<(RowView<'_>, &[u8]), Stop>
 
 #[tactic(auto, unfolding(crate::specs::ChangesReading::change_at))]
 fn skim_change(text: &[u8]) -> Result<(ChangeView<'_>, &[u8]), Stop>
-    ensures { Skims (λ x. (change_of x.0, x.1.now)) result (change_at text.now) }
+    ensures { Skims (λ x. (change_viewed x.0, x.1.now)) result (change_at text.now) }
 {
     let (add, rest) = skim_sign(text)?;
     let (row, rest) = skim_row(rest)?;
@@ -141,7 +141,7 @@ impl<'a> ChangeReader<'a> {
 impl<'a> Iterator for ChangeReader<'a> {
     type Item = ChangeView<'a>;
 
-    ghost next_gives = { YieldsFirstBy change_of (λ changes. changes) };
+    ghost next_gives = { YieldsFirstBy change_viewed (λ changes. changes) };
 
     ghost remaining = { item_count (λ changes. changes) };
 

@@ -1,7 +1,7 @@
 //! Changes whose names stand in bytes.
 
 ghost use Rattle.std.specs.Prelude.{◌≡◌, IfOk};
-ghost use Rattle.txn_codec.specs.ChangeView.{row_of, change_of};
+ghost use Rattle.txn_codec.specs.ChangeView.{row_viewed, change_viewed};
 
 use crate::NameSlice;
 use dl_base::{NamedChange, NamedRow};
@@ -35,7 +35,7 @@ pub struct ChangeView<'a> {
 impl<'a> RowView<'a> {
     /// The same row, with memory of its own.
     pub fn to_row(&self, alloc: Global) -> Result<NamedRow, AllocError>
-        ensures { IfOk result (λ row. row ≡ row_of self.now) }
+        ensures { IfOk result (λ row. row ≡ row_viewed self.now) }
     {
         match self {
             RowView::Concept {
@@ -57,7 +57,7 @@ impl<'a> RowView<'a> {
 impl<'a> ChangeView<'a> {
     /// The same change, with memory of its own.
     pub fn to_change(&self, alloc: Global) -> Result<NamedChange, AllocError>
-        ensures { IfOk result (λ change. change ≡ change_of self.now) }
+        ensures { IfOk result (λ change. change ≡ change_viewed self.now) }
     {
         Ok(NamedChange {
             add: self.add,

@@ -1,4 +1,4 @@
-use Rattle.std.proofs.Common.{◌⊎◌, Contains, List, subst}
+use Rattle.std.proofs.Common.{Contains, List, subst}
 use Rattle.std.proofs.lemmas.List.{get_or_default}
 use Rattle.dl_base.specs.declared.row.Row.{Row}
 use Rattle.assert_tables.proofs.GatheredLemmas.{added_all, added_more}

@@ -1,6 +1,6 @@
-use Rattle.std.proofs.Common.{◌≡◌, ◌↔◌, ◌⊎◌, inl, inr, ℕ, Contains, List, [], ap, subst, sym, ◌∙◌}
+use Rattle.std.proofs.Common.{◌≡◌, ◌↔◌, ◌⊎◌, inl, inr, Contains, List, [], ap, subst, sym, ◌∙◌}
 use Rattle.dl_base.specs.declared.row.Row.{Row}
-use Rattle.assert_tables.specs.Gathered.{AreGathered, Settles}
+use Rattle.assert_tables.specs.Gathered.{Settles}
 use Rattle.assert_tables.proofs.GatheredLemmas.{all_are, both_are, settled_gathered, some_settled}
 use Rattle.assert_tables.proofs.gathered.settle.Goals as goal
 

@@ -1,6 +1,6 @@
 use Rattle.std.proofs.Common.{All, Bool, subst}
 use Rattle.std.specs.Prelude.{MatchBool}
-use Rattle.base_store.specs.Legal.{IsNamedBy}
+use Rattle.dl_base.specs.Numbers.{IsNamedBy}
 use Rattle.base_store.specs.Loading.{FollowsChanges}
 use Rattle.base_store.proofs.Taking.{has_next, judged_unless}
 use Rattle.base_store.proofs.loading.take_changes.Goals as goal

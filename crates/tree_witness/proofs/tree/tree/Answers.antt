@@ -1,6 +1,6 @@
 use Rattle.std.proofs.Common.{◌≡◌, ◌+◌, ◌≤◌, ◌++◌, ◌∷◌, [], List, length, true≢false, sym, ◌∙◌, ap, subst, arith}
 use Rattle.std.proofs.lemmas.List.{length_push}
-use Rattle.tree_witness.specs.Trees.{IsGrown, IsNext, HasTerm, Extends}
+use Rattle.tree_witness.specs.Trees.{IsGrown, IsNext, HasTerm, ExtendsTree}
 use Rattle.tree_witness.specs.declared.tree.ReachedTerm.{ReachedTerm}
 use Rattle.tree_witness.proofs.TreeLemmas.{IsGrowing, top_growing, growing_more, few_terms, none_grown, all_grown}
 use Rattle.tree_witness.proofs.tree.tree.Goals as goal
@@ -24,7 +24,7 @@ more c =
     growing_more c.args.terms c.args.oriented.now c.args.root c.grows.tree.items c.grows.invariant c.in-Some.next.place c.in-Some.next.atom c.in_ok-added.added c.requires.oriented
     (subst (λ (t : List ReachedTerm). IsNext c.args.oriented.now c.args.root.role t c.in-Some.next.place c.in-Some.next.atom) c.as_slice.ensures.value c.in-Some.ensures)
     (λ has. absurd (true≢false (sym (c.has_term.ensures.1 (subst (λ (t : List ReachedTerm). HasTerm t c.in-Some.next.atom.to) (sym c.as_slice-in-grows.ensures.value) has)) ∙ c.if-has_term.false)))
-    (subst (λ (t : List ReachedTerm). Extends c.args.root.role t c.in-Some.next.place c.in-Some.next.atom c.in_ok-added.added) c.as_slice-in-grows-2.ensures.value c.in_ok-added.ensures)
+    (subst (λ (t : List ReachedTerm). ExtendsTree c.args.root.role t c.in-Some.next.place c.in-Some.next.atom c.in_ok-added.added) c.as_slice-in-grows-2.ensures.value c.in_ok-added.ensures)
 
 pub grows-smaller : goal.grows-smaller
 unfolding more

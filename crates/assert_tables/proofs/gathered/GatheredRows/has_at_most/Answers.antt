@@ -1,4 +1,4 @@
-use Rattle.std.proofs.Common.{◌≤◌, ◌+◌, length, refl, subst, arith, ℕ}
+use Rattle.std.proofs.Common.{refl, arith}
 use Rattle.assert_tables.proofs.GatheredLemmas.{gathered_most, gathered_rise}
 use Rattle.assert_tables.proofs.gathered.GatheredRows.has_at_most.Goals as goal
 

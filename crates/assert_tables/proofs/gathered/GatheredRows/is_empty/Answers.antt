@@ -1,4 +1,4 @@
-use Rattle.std.proofs.Common.{◌≡◌, ◌==◌, Bool, ℕ, ap, ◌∙◌}
+use Rattle.std.proofs.Common.{◌==◌, ℕ, ap, ◌∙◌}
 use Rattle.assert_tables.proofs.GatheredLemmas.{none_waits}
 use Rattle.assert_tables.proofs.gathered.GatheredRows.is_empty.Goals as goal
 

@@ -1,4 +1,4 @@
-use Rattle.std.proofs.Common.{◌≤◌, refl, arith}
+use Rattle.std.proofs.Common.{refl, arith}
 use Rattle.assert_tables.proofs.GatheredLemmas.{few_named, gathered_below, gathered_rise}
 use Rattle.assert_tables.proofs.gathered.GatheredRows.name_at_most.Goals as goal
 

@@ -2,7 +2,7 @@ use Rattle.std.proofs.Common.{◌∙◌, arith, inl, inr, subst, sym}
 use Rattle.std.specs.Prelude.{IsErrAnd}
 use Rattle.std.specs.Option.{ForSome}
 use Rattle.base_store.specs.Area.{IsDamaged}
-use Rattle.base_store.specs.Loaded.{FaultSays}
+use Rattle.base_store.specs.Loaded.{LoadFaultSays}
 use Rattle.base_store.proofs.LoadedRows.{is_in_range}
 use Rattle.gated_log.proofs.Since.{failed_so, is_fault}
 use Rattle.gated_log.specs.Entries.{within}
@@ -13,7 +13,7 @@ use Rattle.base_store.proofs.store.Store.load.Goals as goal
 
 pub returns-in_err-log-clause-damaged : goal.returns-in_err-log-clause-damaged
 returns-in_err-log-clause-damaged g c =
-    err_same c.from_residual-in_err-log.result c.in_err-log.field-0.0 (λ f. ForSome (g.H.Host.disk c.args.host.now) (λ d. FaultSays (IsDamaged d.first.reads) f)) c.from_residual-in_err-log.ensures.1
+    err_same c.from_residual-in_err-log.result c.in_err-log.field-0.0 (λ f. ForSome (g.H.Host.disk c.args.host.now) (λ d. LoadFaultSays (IsDamaged d.first.reads) f)) c.from_residual-in_err-log.ensures.1
     (λ d told.
     let o = c.in_ok-reader.ensures.ok d told in
     damage_says d.first.reads o.0.first.reads o.4 c.in_err-log.field-0.0 (c.in_err-log.ensures.damaged o.0 o.1))

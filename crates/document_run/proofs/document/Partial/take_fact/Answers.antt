@@ -17,7 +17,7 @@ pub returns-then-branch : goal.returns-then-branch
 returns-then-branch c = λ lines text next.
     let o = c.args.self.ontology in
     let row = c.args.row.now in
-    let kept = fits_true _ _ _ c.if-branch.true (c.in_ok-add-in-Some.ensures o next.next.keeps.said.facts c.place_of.ensures.terminology next.next.keeps.facts c.in-Some.ensures.place) in
+    let kept = fits_true _ _ _ c.if-branch.true (c.in_ok-add-in-Some.ensures o next.next.keeps.said.facts c.place_of.ensures.within next.next.keeps.facts c.in-Some.ensures.place) in
     subst (KeepsDraft (lines ++ text ∷ [])) (sym c.goes_on.ensures)
     (fact_more lines text c.args.self next.next row next.says (sym c.is_some.ensures ∙ c.if-is_some.false) (place_named o row c.in-Some.place c.in-Some.ensures.place) c.add.new.self kept)
 
@@ -25,6 +25,6 @@ pub returns-else-branch : goal.returns-else-branch
 returns-else-branch c = λ lines text next.
     let o = c.args.self.ontology in
     let row = c.args.row.now in
-    let many = fits_false _ _ _ c.if-branch.false (c.in_ok-add-in-Some.ensures o next.next.keeps.said.facts c.place_of.ensures.terminology next.next.keeps.facts c.in-Some.ensures.place) in
+    let many = fits_false _ _ _ c.if-branch.false (c.in_ok-add-in-Some.ensures o next.next.keeps.said.facts c.place_of.ensures.within next.next.keeps.facts c.in-Some.ensures.place) in
     subst (KeepsDraft (lines ++ text ∷ [])) (sym c.refused-else-branch.ensures)
     (fact_passes lines text c.args.self next.next row next.says (sym c.is_some.ensures ∙ c.if-is_some.false) (place_named o row c.in-Some.place c.in-Some.ensures.place) many)

@@ -1,4 +1,4 @@
-use Rattle.base_store.specs.Legal.{IsNamedBy}
+use Rattle.dl_base.specs.Numbers.{IsNamedBy}
 use Rattle.base_engine.specs.Refusals.{LacksNameOf}
 use Rattle.kept_base.proofs.DecidedRefusals.{appends_needs, at_none, at_some, changes_accepted, changes_closed, changes_pending, changes_unknown, wants_ontology}
 use Rattle.kept_base.proofs.base.Base.change_refusal.Goals as goal

@@ -1,7 +1,7 @@
 use Rattle.std.proofs.Common.{All, sym, subst}
 use Rattle.std.proofs.lemmas.Result.{IfOk-weaker}
 use Rattle.dl_base.specs.Ontology.{Terminology}
-use Rattle.base_store.specs.Legal.{IsNamedBy}
+use Rattle.dl_base.specs.Numbers.{IsNamedBy}
 use Rattle.kept_base.specs.Committing.{JudgesChanges}
 use Rattle.kept_base.specs.declared.contents.Judged.{Judged}
 use Rattle.kept_base.specs.declared.contents.Judged.TheVariants as judged

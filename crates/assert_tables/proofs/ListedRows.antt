@@ -12,7 +12,7 @@ use Rattle.assert_tables.proofs.LeftLemmas.{above_on}
 use Rattle.dl_base.specs.declared.row.Row.{Row}
 use Rattle.dl_base.proofs.PlaceLemmas.{member_at}
 use Rattle.dl_base.proofs.RowLemmas.{contains_cut}
-use Rattle.base_store.specs.Loading.{IsListOf, ListsFrom, ListsRow}
+use Rattle.assert_tables.specs.Listing.{IsListOf, ListsFrom, ListsRow}
 
 -- ---- distinct rows
 

@@ -1,8 +1,8 @@
 // The rows as a list.
 ghost use Rattle.std.specs.Prelude.{IfOk, OnOk};
-ghost use Rattle.base_store.specs.Loading.{IsListOf, ListsFrom, ListsRow};
+ghost use Rattle.assert_tables.specs.Listing.{IsListOf, ListsFrom, ListsRow};
 
-use assert_tables::Assertions;
+use crate::assertions::Assertions;
 use dl_base::{Row, RowList};
 use std::alloc::{AllocError, Global};
 

@@ -1,7 +1,7 @@
 use Rattle.std.proofs.Common.{None, subst, sym}
 use Rattle.assert_tables.proofs.LeftLemmas.{fewer_individuals}
-use Rattle.base_store.proofs.ListedRows.{AreListedUpTo, listed_all, listed_more, listed_none}
-use Rattle.base_store.proofs.listing.listed.Goals as goal
+use Rattle.assert_tables.proofs.ListedRows.{AreListedUpTo, listed_all, listed_more, listed_none}
+use Rattle.assert_tables.proofs.listing.listed.Goals as goal
 
 pub loop-individual-init : goal.loop-individual-init
 loop-individual-init c = subst (AreListedUpTo c.args.rows.now None) (sym c.new-list.ensures) (listed_none c.args.rows.now)

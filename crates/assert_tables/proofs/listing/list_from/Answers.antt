@@ -4,8 +4,8 @@ use Rattle.dl_base.specs.declared.row.Row.{Row}
 use Rattle.dl_base.specs.Rows.{numbered_row_cmp}
 use Rattle.dl_base.proofs.InOrder.{rising_distinct}
 use Rattle.dl_base.proofs.RowLemmas.{numbered_same, numbered_total}
-use Rattle.base_store.proofs.ListedRows.{ListsSome, lists_all, lists_more}
-use Rattle.base_store.proofs.listing.list_from.Goals as goal
+use Rattle.assert_tables.proofs.ListedRows.{ListsSome, lists_all, lists_more}
+use Rattle.assert_tables.proofs.listing.list_from.Goals as goal
 
 pub loop-row-preserved : goal.loop-row-preserved
 loop-row-preserved c =

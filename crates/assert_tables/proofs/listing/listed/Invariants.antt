@@ -1,7 +1,7 @@
 use Rattle.assert_tables.specs.Rows.{individuals_of}
 use Rattle.assert_tables.proofs.LeftLemmas.{numbers_left}
-use Rattle.base_store.proofs.ListedRows.{AreListedUpTo}
-use Rattle.base_store.proofs.listing.listed.Given as goal
+use Rattle.assert_tables.proofs.ListedRows.{AreListedUpTo}
+use Rattle.assert_tables.proofs.listing.listed.Given as goal
 
 abbrev pub invariant-loop-individual : goal.invariant-loop-individual
 invariant-loop-individual l = AreListedUpTo l.rows l.after l.list
