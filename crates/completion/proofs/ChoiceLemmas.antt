@@ -21,7 +21,7 @@ use Rattle.dl_base.proofs.RisingLemmas.{contains_cases, contains_first, contains
 use Rattle.dl_base.proofs.RowLemmas.{contains_cut}
 use Rattle.dl_base.proofs.RoleLemmas.{direct_or_inverse}
 use Rattle.witness_book.specs.Witnesses.{Witnesses, current_witness, generation_of}
-use Rattle.completion.specs.Gathered.{AreLiveWithin, IsFoundWith, IsHad, IsHadBehind, IsWitnessWith, role_of}
+use Rattle.completion.specs.Gathered.{AreLiveWithin, IsFoundWith, IsHad, IsHadBehind, IsWitnessWith, role_by_place}
 use Rattle.completion.specs.declared.gather.Property.{Property}
 use Rattle.completion.specs.declared.individuals.AtIndividual.{AtIndividual}
 
@@ -133,8 +133,8 @@ module _ (o : Terminology) (b : Witnesses) (p : Property) where
   below_none = record { each = λ w. (λ c. absurd (omega (arith, c.1)), λ h. absurd (omega (arith, h.0))) }
 
   pub below_more : (name : ℕ) (ws half new : List Witness)
-      → ((w : Witness) → Contains half w ↔ (((w.role ≡ role_of name false) × IsWitnessWith o b p w) ⊎ Contains ws w))
-      → ((w : Witness) → Contains new w ↔ (((w.role ≡ role_of name true) × IsWitnessWith o b p w) ⊎ Contains half w))
+      → ((w : Witness) → Contains half w ↔ (((w.role ≡ role_by_place name false) × IsWitnessWith o b p w) ⊎ Contains ws w))
+      → ((w : Witness) → Contains new w ↔ (((w.role ≡ role_by_place name true) × IsWitnessWith o b p w) ⊎ Contains half w))
       → ChosenBelow name ws → ChosenBelow (name + 1) new
   below_more name ws half new first second far = record { each = λ w. (into w, out w) }
     where

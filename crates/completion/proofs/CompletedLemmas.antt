@@ -1,7 +1,7 @@
 -- Rows of completed tables by numbers are those of the definition, by names.
 use Rattle.std.proofs.Common.{◌≡◌, ℕ, ◌↔◌, inl, inr, false, List, slice_get, Contains, Some, refl, sym, ap, subst}
 use Rattle.completion.specs.Completed.{Completion, IsCompletionOf}
-use Rattle.completion.specs.Edges.{ElemPoints, IsDerivedElem, IsLiveWitness, IsTableRow, Leads, by_row, forth, back, witness_of}
+use Rattle.completion.specs.Edges.{ElemPoints, IsDerivedElem, IsLiveWitness, IsTableRow, LeadsBetween, by_row, forth, back, witness_of}
 use Rattle.completion.specs.Named.{IsNamedCompletion}
 use Rattle.dl_base.specs.Numbers.{NumbersRow, StandFor}
 use Rattle.completion.specs.Numbered.{HoldsBy, IsLiveRole}
@@ -107,7 +107,7 @@ module _ (o : Terminology) (names : List (List ℕ)) (rows : List Row) (these : 
       subst (Contains rows) (λ j. row.Role (role j) (from j) (to j)) there
   row_base p n m a b name (row.Concept d k) at_n at_m at_p there numbers = absurd numbers
 
-  node_row : (p : ℕ) (e f : Elem) (a b : List ℕ) → At e (Individual a) → At f (Individual b) → HasRow o these (direct p) a b → Leads o rows generation (direct p) e f
+  node_row : (p : ℕ) (e f : Elem) (a b : List ℕ) → At e (Individual a) → At f (Individual b) → HasRow o these (direct p) a b → LeadsBetween o rows generation (direct p) e f
   node_row p (elem.Named n) (elem.Named m) a b at_e at_f has =
       let found = stand.each (named.Role has.name a b) has.there in
       by_row n m (row_base p n m a b has.name found.0 at_e at_f has.named found.1 found.2)
@@ -116,7 +116,7 @@ module _ (o : Terminology) (names : List (List ℕ)) (rows : List Row) (these : 
 
   -- ---- roles
 
-  leads_completes : (p : ℕ) (e f : Elem) → Leads o rows generation (direct p) e f → CompletesRole o these names generation p e f
+  leads_completes : (p : ℕ) (e f : Elem) → LeadsBetween o rows generation (direct p) e f → CompletesRole o these names generation p e f
   leads_completes p _ _ (by_row n m there) =
       let found = stand.only (row.Role p n m) there in
       let named_row = base_row p n m found.0 found.1 found.2 in
@@ -146,14 +146,14 @@ module _ (o : Terminology) (names : List (List ℕ)) (rows : List Row) (these : 
         leads = inr (inr (refl, node.2));
       }
 
-  completes_leads : (p : ℕ) (e f : Elem) (x y : Node) → At e x → At f y → RoleLeads o these p x y → Leads o rows generation (direct p) e f
+  completes_leads : (p : ℕ) (e f : Elem) (x y : Node) → At e x → At f y → RoleLeads o these p x y → LeadsBetween o rows generation (direct p) e f
   completes_leads p e f x y at_e at_f (inl base) = node_row p e f base.from base.to (subst (At e) base.from_is at_e) (subst (At f) base.to_is at_f) base.row
   completes_leads p e f x y at_e at_f (inr (inl (to, points))) =
       let pointing = node_points (direct p) e x at_e points in
-      subst (Leads o rows generation (direct p) e) (sym (node_witness (direct p) f (subst (At f) to at_f))) (forth e pointing)
+      subst (LeadsBetween o rows generation (direct p) e) (sym (node_witness (direct p) f (subst (At f) to at_f))) (forth e pointing)
   completes_leads p e f x y at_e at_f (inr (inr (from, points))) =
       let pointing = node_points (inverse (direct p)) f y at_f points in
-      subst (λ (g : Elem). Leads o rows generation (direct p) g f) (sym (node_witness (inverse (direct p)) e (subst (At e) from at_e))) (back f pointing)
+      subst (λ (g : Elem). LeadsBetween o rows generation (direct p) g f) (sym (node_witness (inverse (direct p)) e (subst (At e) from at_e))) (back f pointing)
 
   -- ---- all rows
 

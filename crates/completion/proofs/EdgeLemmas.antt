@@ -1,8 +1,8 @@
 -- The elements from which a role leads are those at which a successor is derived.
 use Rattle.std.proofs.Common.{◌≡◌, ◌≢◌, ℕ, ◌⊎◌, inl, inr, Bool, true, false, not, List, [], ◌∷◌, Contains, refl, sym, ◌∙◌, ap, subst, arith}
 use Rattle.std.proofs.lemmas.Bool.{cases_eq}
-use Rattle.completion.specs.Edges.{ElemPoints, IsDerivedElem, IsLiveWitness, Leads, by_row, forth, back, witness_of, numbered_row}
-use Rattle.completion.specs.Numbered.{GivesBasic, HoldsBy, IsLiveRole, IsNamed}
+use Rattle.completion.specs.Edges.{ElemPoints, IsDerivedElem, IsLiveWitness, LeadsBetween, by_row, forth, back, witness_of, numbered_row}
+use Rattle.completion.specs.Numbered.{GivesBasic, HoldsBy, IsLiveRole, IsRowNamed}
 use Rattle.completion.proofs.HeldLemmas.{gives_named}
 use Rattle.dl_base.specs.Completion.{DerivedBehind}
 use Rattle.dl_base.specs.Derivation.{Derives, leaf, inverse}
@@ -132,27 +132,27 @@ module _ (o : Terminology) (rows : List Row) (generation : Role → ℕ) where
       let holds : HoldsBy rows n (basic.Exists r) = given_holds n rows r.inverse r.name (m, there) in
       ((holds.0, holds.1, gives_named holds.0 n (basic.Exists r) holds.2), leaf holds)
 
-  pub leads_derived : (r : Role) (e f : Elem) → Leads o rows generation r e f → IsDerivedElem o rows generation (basic.Exists r) e
+  pub leads_derived : (r : Role) (e f : Elem) → LeadsBetween o rows generation r e f → IsDerivedElem o rows generation (basic.Exists r) e
   leads_derived r _ _ (by_row n m there) = row_derived r n m there
   leads_derived r _ _ (forth e points) = points_derived r e points
   leads_derived r _ _ (back f points) = (record { live = points_live (inverse r) f points; now = refl }, leaf (ap basic.Exists (sym (inverse_twice r))))
 
-  named_leads : (r : Role) (n : ℕ) → IsNamed rows n → Derives o.inclusions (HoldsBy rows n) (basic.Exists r) → (f : Elem) × Leads o rows generation r (elem.Named n) f
+  named_leads : (r : Role) (n : ℕ) → IsRowNamed rows n → Derives o.inclusions (HoldsBy rows n) (basic.Exists r) → (f : Elem) × LeadsBetween o rows generation r (elem.Named n) f
   named_leads r n named d = elim (some_gives n rows r.inverse r.name) [
     | inl holds ↦ (let given = gives_given n rows r.inverse r.name holds.0 holds.1 holds.2 in (elem.Named given.0, by_row n given.0 given.1))
     | inr none ↦ (elem.Shared (witness_of generation r), forth (elem.Named n) (named, record { derived = d; no_row = none }))
   ]
 
-  shared_leads : (r : Role) (w : Witness) → IsLiveWitness o rows generation w → DerivedBehind o w.role (basic.Exists r) → (f : Elem) × Leads o rows generation r (elem.Shared w) f
+  shared_leads : (r : Role) (w : Witness) → IsLiveWitness o rows generation w → DerivedBehind o w.role (basic.Exists r) → (f : Elem) × LeadsBetween o rows generation r (elem.Shared w) f
   shared_leads r w is d = elim (same_role_or_not r (inverse w.role)) [
     | inl same ↦
         let turned : inverse r ≡ w.role = ap inverse same ∙ inverse_twice w.role in
         let pointed = live_pointed (subst (IsLiveRole o rows) (sym turned) is.live) in
         let whole : witness_of generation (inverse r) ≡ w = λ j. record { role = turned j; generation = (ap generation turned ∙ sym is.now) j } in
-        (pointed.0, subst (λ (v : Witness). Leads o rows generation r (elem.Shared v) pointed.0) whole (back pointed.0 pointed.1))
+        (pointed.0, subst (λ (v : Witness). LeadsBetween o rows generation r (elem.Shared v) pointed.0) whole (back pointed.0 pointed.1))
     | inr other ↦ (elem.Shared (witness_of generation r), forth (elem.Shared w) (is, record { derived = d; not_back = other }))
   ]
 
-  pub derived_leads : (r : Role) (e : Elem) → IsDerivedElem o rows generation (basic.Exists r) e → (f : Elem) × Leads o rows generation r e f
+  pub derived_leads : (r : Role) (e : Elem) → IsDerivedElem o rows generation (basic.Exists r) e → (f : Elem) × LeadsBetween o rows generation r e f
   derived_leads r (elem.Named n) (named, d) = named_leads r n named d
   derived_leads r (elem.Shared w) (is, d) = shared_leads r w is d

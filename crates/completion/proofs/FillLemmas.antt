@@ -10,7 +10,7 @@ use Rattle.dl_base.specs.declared.element.Elem.TheVariants as elem
 use Rattle.dl_base.specs.declared.element.Witness.{Witness}
 use Rattle.dl_base.proofs.RoleLemmas.{direct_or_inverse}
 use Rattle.witness_book.specs.Witnesses.{Witnesses}
-use Rattle.completion.specs.Gathered.{AreConceptLists, AreElemsWith, AreListsOfNames, AreRoleLists, IsFoundWith, IsWitnessWith, role_of}
+use Rattle.completion.specs.Gathered.{AreConceptLists, AreElemsWith, AreListsOfNames, AreRoleLists, IsFoundWith, IsWitnessWith, role_by_place}
 use Rattle.completion.specs.Members.{members_of}
 use Rattle.completion.specs.TableRows.{lists_at, elements_at, no_lists, one_way}
 use Rattle.completion.specs.declared.gather.Property.{Property}
@@ -50,14 +50,14 @@ module _ (o : Terminology) (list : List (ℕ × AtIndividual)) (b : Witnesses) w
   pub names_none : AreListsOfNames o list b 0 []
   names_none = record { all = refl; each = λ r below. absurd (omega (arith, below)) }
 
-  pub names_more : (n : ℕ) (lists : List BothWays) (x : BothWays) → AreRoleLists o list b (role_of n false) x.direct → AreRoleLists o list b (role_of n true) x.inverse
+  pub names_more : (n : ℕ) (lists : List BothWays) (x : BothWays) → AreRoleLists o list b (role_by_place n false) x.direct → AreRoleLists o list b (role_by_place n true) x.inverse
       → AreListsOfNames o list b n lists → AreListsOfNames o list b (n + 1) (lists ++ x ∷ [])
   names_more n lists x direct inverse far = record { all = length_push lists x ∙ ap (λ (m : ℕ). m + 1) far.all; each = each }
     where
       last : (r : Role) → r.name ≡ n → lists_at (lists ++ x ∷ []) r ≡ one_way r.inverse x
       last r same = ap (one_way r.inverse) (get_or_push lists x (record { direct = no_lists; inverse = no_lists }) r.name (far.all ∙ sym same))
 
-      here : (r : Role) → (r ≡ role_of n false) ⊎ (r ≡ role_of n true) → AreRoleLists o list b r (one_way r.inverse x)
+      here : (r : Role) → (r ≡ role_by_place n false) ⊎ (r ≡ role_by_place n true) → AreRoleLists o list b r (one_way r.inverse x)
       here r (inl is) = subst (λ (s : Role). AreRoleLists o list b s (one_way s.inverse x)) (sym is) direct
       here r (inr is) = subst (λ (s : Role). AreRoleLists o list b s (one_way s.inverse x)) (sym is) inverse
 

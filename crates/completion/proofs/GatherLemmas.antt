@@ -3,8 +3,8 @@ use Rattle.std.proofs.Common.{◌≡◌, ℕ, ◌<◌, ◌≤◌, ◌⊎◌, ◌
 use Rattle.std.specs.Prelude.{slice_index_or}
 use Rattle.std.proofs.lemmas.List.{get_or_past}
 use Rattle.completion.specs.EdgeLists.{edge_of}
-use Rattle.completion.specs.Edges.{ElemPoints, IsDerivedElem, IsLiveWitness, IsTableRow, Leads, by_row, forth, back, witness_of, numbered_row}
-use Rattle.completion.specs.Gathered.{AreConceptLists, AreElemsWith, AreListsOfNames, AreRoleLists, IsElemWith, IsFoundWith, IsWitnessWith, role_of, row_of_edge}
+use Rattle.completion.specs.Edges.{ElemPoints, IsDerivedElem, IsLiveWitness, IsTableRow, LeadsBetween, by_row, forth, back, witness_of, numbered_row}
+use Rattle.completion.specs.Gathered.{AreConceptLists, AreElemsWith, AreListsOfNames, AreRoleLists, IsElemWith, IsFoundWith, IsWitnessWith, role_by_place, row_of_edge}
 use Rattle.completion.specs.Individuals.{AreAtIndividuals}
 use Rattle.completion.specs.Numbered.{IsLiveRole, IsRowOf}
 use Rattle.completion.specs.TableRows.{AreListedSources, KeptRows, RoleLists, lists_at, elements_at, no_lists, one_way, table_of, witness_at}
@@ -166,27 +166,27 @@ module _ (o : Terminology) (rows : List Row) (within : IsTerminology o) (all : A
     edge_is false p n m = edges (record { role = p; from = n; to = m })
     edge_is true p n m = edges (record { role = p; from = m; to = n })
 
-    kept_leads : (r : Role) (e f : Elem) → IsKeptEdge k r e f → Leads o rows generation r e f
-    kept_leads r (elem.Named n) f (inl (m, is, there)) = subst (Leads o rows generation r (elem.Named n)) (sym is) (by_row n m ((edge_is r.inverse r.name n m).0 there))
+    kept_leads : (r : Role) (e f : Elem) → IsKeptEdge k r e f → LeadsBetween o rows generation r e f
+    kept_leads r (elem.Named n) f (inl (m, is, there)) = subst (LeadsBetween o rows generation r (elem.Named n)) (sym is) (by_row n m ((edge_is r.inverse r.name n m).0 there))
     kept_leads r (elem.Shared w) f (inl none) = absurd none
     kept_leads r e f (inr (inl (there, is))) =
         let points = (pointing_is r e).0 there in
-        subst (Leads o rows generation r e) (sym (is ∙ witness_is r e points)) (forth e points)
+        subst (LeadsBetween o rows generation r e) (sym (is ∙ witness_is r e points)) (forth e points)
     kept_leads r e f (inr (inr (there, is))) =
         let points = (pointing_is (inverse r) f).0 there in
-        subst (λ (g : Elem). Leads o rows generation r g f) (sym (is ∙ witness_is (inverse r) f points)) (back f points)
+        subst (λ (g : Elem). LeadsBetween o rows generation r g f) (sym (is ∙ witness_is (inverse r) f points)) (back f points)
 
-    leads_kept : (r : Role) (e f : Elem) → Leads o rows generation r e f → IsKeptEdge k r e f
+    leads_kept : (r : Role) (e f : Elem) → LeadsBetween o rows generation r e f → IsKeptEdge k r e f
     leads_kept r _ _ (by_row n m there) = inl (m, refl, (edge_is r.inverse r.name n m).1 there)
     leads_kept r _ _ (forth e points) = inr (inl ((pointing_is r e).1 points, sym (witness_is r e points)))
     leads_kept r _ _ (back f points) = inr (inr ((pointing_is (inverse r) f).1 points, sym (witness_is (inverse r) f points)))
 
-    edges_are : (r : Role) (e f : Elem) → Contains (table_of k) (edge_row r e f) ↔ Leads o rows generation r e f
+    edges_are : (r : Role) (e f : Elem) → Contains (table_of k) (edge_row r e f) ↔ LeadsBetween o rows generation r e f
     edges_are r e f = (λ c. kept_leads r e f ((edge_kept k r e f).0 c), λ h. (edge_kept k r e f).1 (leads_kept r e f h))
 
     pub table_rows_are : (t : TableRow) → Contains (table_of k) t ↔ IsTableRow o rows generation t
     table_rows_are (ConceptRow c e) = (λ h. (member_is c e).0 ((concept_kept k c e).0 h), λ is. (concept_kept k c e).1 ((member_is c e).1 is))
-    table_rows_are (RoleRow p e f) = edges_are (role_of p false) e f
+    table_rows_are (RoleRow p e f) = edges_are (role_by_place p false) e f
 
     pub are_sources : AreListedSources k
     are_sources = record {

@@ -10,7 +10,7 @@ use Rattle.dl_base.specs.declared.element.Elem.{Elem}
 use Rattle.dl_base.specs.declared.element.Elem.TheVariants as elem
 use Rattle.dl_base.proofs.PlaceLemmas.{map_contains, map_from}
 use Rattle.completion.specs.EdgeLists.{edge_of}
-use Rattle.completion.specs.Gathered.{role_of}
+use Rattle.completion.specs.Gathered.{role_by_place}
 use Rattle.completion.specs.TableRows.{IsRowFrom, KeptRows, PointsHere, RoleLists, concept_rows, individual_row, elements_at, no_lists, one_way, pointing_rows, table_of, witness_at, witness_rows}
 use Rattle.completion.specs.declared.edges.Edge.{Edge}
 use Rattle.completion.specs.declared.rows.BothWays.{BothWays}
@@ -52,39 +52,39 @@ pointing_there : (r : Role) (x : RoleLists) (e : Elem) → Contains x.pointing e
 pointing_there r x e there = map_contains (λ (f : Elem). witness_row r x f) x.pointing e there
 
 name_there : (p : ℕ) (x : BothWays) (b : Bool) (e : Elem) → Contains (one_way b x).pointing e
-    → Contains (pointing_rows (role_of p false) x.direct ++ pointing_rows (role_of p true) x.inverse) (witness_row (role_of p b) (one_way b x) e)
-name_there p x false e there = Contains-append_left (pointing_rows (role_of p false) x.direct) (pointing_rows (role_of p true) x.inverse) _ (pointing_there (role_of p false) x.direct e there)
-name_there p x true e there = Contains-append_right (pointing_rows (role_of p false) x.direct) (pointing_rows (role_of p true) x.inverse) _ (pointing_there (role_of p true) x.inverse e there)
+    → Contains (pointing_rows (role_by_place p false) x.direct ++ pointing_rows (role_by_place p true) x.inverse) (witness_row (role_by_place p b) (one_way b x) e)
+name_there p x false e there = Contains-append_left (pointing_rows (role_by_place p false) x.direct) (pointing_rows (role_by_place p true) x.inverse) _ (pointing_there (role_by_place p false) x.direct e there)
+name_there p x true e there = Contains-append_right (pointing_rows (role_by_place p false) x.direct) (pointing_rows (role_by_place p true) x.inverse) _ (pointing_there (role_by_place p true) x.inverse e there)
 
 none_pointing : (b : Bool) (e : Elem) → Contains (one_way b (record { direct = no_lists; inverse = no_lists })).pointing e → ⊥
 none_pointing false e there = omega (arith, there.1)
 none_pointing true e there = omega (arith, there.1)
 
-witness_there : (p q : ℕ) (lists : List BothWays) (b : Bool) (e : Elem) → Contains (lists_in lists q b).pointing e → Contains (witness_rows p lists) (witness_row (role_of (p + q) b) (lists_in lists q b) e)
+witness_there : (p q : ℕ) (lists : List BothWays) (b : Bool) (e : Elem) → Contains (lists_in lists q b).pointing e → Contains (witness_rows p lists) (witness_row (role_by_place (p + q) b) (lists_in lists q b) e)
 witness_there p q [] b e there = absurd (none_pointing b e there)
 witness_there p zero (x ∷ rest) b e there =
     let same : p ≡ p + zero = omega arith in
-    Contains-append_left (pointing_rows (role_of p false) x.direct ++ pointing_rows (role_of p true) x.inverse) (witness_rows (p + 1) rest) _
-    (subst (λ (c : ℕ). Contains (pointing_rows (role_of p false) x.direct ++ pointing_rows (role_of p true) x.inverse) (witness_row (role_of c b) (one_way b x) e)) same (name_there p x b e there))
+    Contains-append_left (pointing_rows (role_by_place p false) x.direct ++ pointing_rows (role_by_place p true) x.inverse) (witness_rows (p + 1) rest) _
+    (subst (λ (c : ℕ). Contains (pointing_rows (role_by_place p false) x.direct ++ pointing_rows (role_by_place p true) x.inverse) (witness_row (role_by_place c b) (one_way b x) e)) same (name_there p x b e there))
 witness_there p (suc q) (x ∷ rest) b e there =
     let same : (p + 1) + q ≡ p + suc q = omega arith in
-    Contains-append_right (pointing_rows (role_of p false) x.direct ++ pointing_rows (role_of p true) x.inverse) (witness_rows (p + 1) rest) _
-    (subst (λ (c : ℕ). Contains (witness_rows (p + 1) rest) (witness_row (role_of c b) (lists_in rest q b) e)) same (witness_there (p + 1) q rest b e there))
+    Contains-append_right (pointing_rows (role_by_place p false) x.direct ++ pointing_rows (role_by_place p true) x.inverse) (witness_rows (p + 1) rest) _
+    (subst (λ (c : ℕ). Contains (witness_rows (p + 1) rest) (witness_row (role_by_place c b) (lists_in rest q b) e)) same (witness_there (p + 1) q rest b e there))
 
 -- it is a row to the witness of a role with this name
 record IsWitnessRow (p : ℕ) (lists : List BothWays) (row : TableRow) : Type 0 where
   place : ℕ
   way : Bool
   from : Elem
-  is : row ≡ witness_row (role_of (p + place) way) (lists_in lists place way) from
+  is : row ≡ witness_row (role_by_place (p + place) way) (lists_in lists place way) from
   there : Contains (lists_in lists place way).pointing from
 
 witness_from : (p : ℕ) (lists : List BothWays) (row : TableRow) → Contains (witness_rows p lists) row → IsWitnessRow p lists row
 witness_from p [] row there = absurd (omega (arith, there.1))
-witness_from p (x ∷ rest) row there = elim (Contains-append_cases (pointing_rows (role_of p false) x.direct ++ pointing_rows (role_of p true) x.inverse) (witness_rows (p + 1) rest) row there) [
-  | inl here ↦ elim (Contains-append_cases (pointing_rows (role_of p false) x.direct) (pointing_rows (role_of p true) x.inverse) row here) [
-    | inl forth ↦ one false (map_from (λ (f : Elem). witness_row (role_of p false) x.direct f) x.direct.pointing row forth)
-    | inr back ↦ one true (map_from (λ (f : Elem). witness_row (role_of p true) x.inverse f) x.inverse.pointing row back)
+witness_from p (x ∷ rest) row there = elim (Contains-append_cases (pointing_rows (role_by_place p false) x.direct ++ pointing_rows (role_by_place p true) x.inverse) (witness_rows (p + 1) rest) row there) [
+  | inl here ↦ elim (Contains-append_cases (pointing_rows (role_by_place p false) x.direct) (pointing_rows (role_by_place p true) x.inverse) row here) [
+    | inl forth ↦ one false (map_from (λ (f : Elem). witness_row (role_by_place p false) x.direct f) x.direct.pointing row forth)
+    | inr back ↦ one true (map_from (λ (f : Elem). witness_row (role_by_place p true) x.inverse f) x.inverse.pointing row back)
   ]
   | inr later ↦
       let found = witness_from (p + 1) rest row later in
@@ -93,17 +93,17 @@ witness_from p (x ∷ rest) row there = elim (Contains-append_cases (pointing_ro
         place = suc found.place;
         way = found.way;
         from = found.from;
-        is = found.is ∙ ap (λ (c : ℕ). witness_row (role_of c found.way) (lists_in rest found.place found.way) found.from) same;
+        is = found.is ∙ ap (λ (c : ℕ). witness_row (role_by_place c found.way) (lists_in rest found.place found.way) found.from) same;
         there = found.there;
       }
 ]
   where
-    one : (b : Bool) → (e : Elem) × Contains (one_way b x).pointing e × (row ≡ witness_row (role_of p b) (one_way b x) e) → IsWitnessRow p (x ∷ rest) row
+    one : (b : Bool) → (e : Elem) × Contains (one_way b x).pointing e × (row ≡ witness_row (role_by_place p b) (one_way b x) e) → IsWitnessRow p (x ∷ rest) row
     one b found = record {
       place = zero;
       way = b;
       from = found.0;
-      is = (let same : p ≡ p + zero = omega arith in found.2 ∙ ap (λ (c : ℕ). witness_row (role_of c b) (one_way b x) found.0) same);
+      is = (let same : p ≡ p + zero = omega arith in found.2 ∙ ap (λ (c : ℕ). witness_row (role_by_place c b) (one_way b x) found.0) same);
       there = found.1;
     }
 
@@ -155,36 +155,36 @@ module _ (k : KeptRows) where
             subst (λ (d : ℕ). Contains (elements_at k.concepts d) e) at (subst (Contains (elements_at k.concepts found.0)) is found.3)
         | inr rest ↦ elim (Contains-append_cases among (witness_rows 0 k.roles) (ConceptRow c e) rest) [
           | inl here ↦ (let found = map_from individual_row k.edges (ConceptRow c e) here in absurd (concept_apart c found.0.role e (elem.Named found.0.from) (elem.Named found.0.to) (sym found.2)))
-          | inr here ↦ (let found = witness_from 0 k.roles (ConceptRow c e) here in absurd (role_apart c e found.from (witness_at (role_of (0 + found.place) found.way) (lists_in k.roles found.place found.way).generation) (role_of (0 + found.place) found.way) found.is))
+          | inr here ↦ (let found = witness_from 0 k.roles (ConceptRow c e) here in absurd (role_apart c e found.from (witness_at (role_by_place (0 + found.place) found.way) (lists_in k.roles found.place found.way).generation) (role_by_place (0 + found.place) found.way) found.is))
         ]
       ]
 
   -- ---- of direct roles
 
-  from_witness : (p q : ℕ) (b : Bool) (e f g : Elem) → p ≡ q → RoleRow q e f ≡ witness_row (role_of p b) (lists_in k.roles q b) g → Contains (lists_in k.roles q b).pointing g → PointsHere k (role_of q false) e f ⊎ PointsHere k (role_of q true) f e
+  from_witness : (p q : ℕ) (b : Bool) (e f g : Elem) → p ≡ q → RoleRow q e f ≡ witness_row (role_by_place p b) (lists_in k.roles q b) g → Contains (lists_in k.roles q b).pointing g → PointsHere k (role_by_place q false) e f ⊎ PointsHere k (role_by_place q true) f e
   from_witness p q false e f g plain row there =
       let from : g ≡ e = cc in
-      let to : f ≡ witness_at (role_of q false) (lists_in k.roles q false).generation = (let h : f ≡ witness_at (role_of p false) (lists_in k.roles q false).generation = cc in h ∙ ap (λ (n : ℕ). witness_at (role_of n false) (lists_in k.roles q false).generation) plain) in
+      let to : f ≡ witness_at (role_by_place q false) (lists_in k.roles q false).generation = (let h : f ≡ witness_at (role_by_place p false) (lists_in k.roles q false).generation = cc in h ∙ ap (λ (n : ℕ). witness_at (role_by_place n false) (lists_in k.roles q false).generation) plain) in
       inl (subst (Contains (lists_in k.roles q false).pointing) from there, to)
   from_witness p q true e f g plain row there =
       let from : g ≡ f = cc in
-      let to : e ≡ witness_at (role_of q true) (lists_in k.roles q true).generation = (let h : e ≡ witness_at (role_of p true) (lists_in k.roles q true).generation = cc in h ∙ ap (λ (n : ℕ). witness_at (role_of n true) (lists_in k.roles q true).generation) plain) in
+      let to : e ≡ witness_at (role_by_place q true) (lists_in k.roles q true).generation = (let h : e ≡ witness_at (role_by_place p true) (lists_in k.roles q true).generation = cc in h ∙ ap (λ (n : ℕ). witness_at (role_by_place n true) (lists_in k.roles q true).generation) plain) in
       inr (subst (Contains (lists_in k.roles q true).pointing) from there, to)
 
   name_of : (b : Bool) (p q n : ℕ) (e f g h : Elem) → RoleRow q e f ≡ edge_row (record { name = p; inverse = b }) g h → q ≡ p
   name_of false p q n e f g h same = cc
   name_of true p q n e f g h same = cc
 
-  by_witness : (q : ℕ) (e f : Elem) → Contains (witness_rows 0 k.roles) (RoleRow q e f) → PointsHere k (role_of q false) e f ⊎ PointsHere k (role_of q true) f e
+  by_witness : (q : ℕ) (e f : Elem) → Contains (witness_rows 0 k.roles) (RoleRow q e f) → PointsHere k (role_by_place q false) e f ⊎ PointsHere k (role_by_place q true) f e
   by_witness q e f here =
       let found = witness_from 0 k.roles (RoleRow q e f) here in
-      let at : q ≡ 0 + found.place = name_of found.way (0 + found.place) q 0 e f found.from (witness_at (role_of (0 + found.place) found.way) (lists_in k.roles found.place found.way).generation) found.is in
+      let at : q ≡ 0 + found.place = name_of found.way (0 + found.place) q 0 e f found.from (witness_at (role_by_place (0 + found.place) found.way) (lists_in k.roles found.place found.way).generation) found.is in
       let place : found.place ≡ q = omega (arith, at) in
       from_witness (0 + found.place) q found.way e f found.from (sym at)
-      (subst (λ (n : ℕ). RoleRow q e f ≡ witness_row (role_of (0 + found.place) found.way) (lists_in k.roles n found.way) found.from) place found.is)
+      (subst (λ (n : ℕ). RoleRow q e f ≡ witness_row (role_by_place (0 + found.place) found.way) (lists_in k.roles n found.way) found.from) place found.is)
       (subst (λ (n : ℕ). Contains (lists_in k.roles n found.way).pointing found.from) place found.there)
 
-  by_individuals : (q : ℕ) (e f : Elem) → Contains among (RoleRow q e f) → IsRowFrom k (role_of q false) e f
+  by_individuals : (q : ℕ) (e f : Elem) → Contains among (RoleRow q e f) → IsRowFrom k (role_by_place q false) e f
   by_individuals q e f here =
       let found = map_from individual_row k.edges (RoleRow q e f) here in
       let x : Edge = found.0 in
@@ -193,21 +193,21 @@ module _ (k : KeptRows) where
       let from : elem.Named x.from ≡ e = cc in
       let to : f ≡ elem.Named x.to = cc in
       let is : x ≡ record { role = q; from = x.from; to = x.to } = λ j. record { role = role j; from = x.from; to = x.to } in
-      subst (λ (g : Elem). IsRowFrom k (role_of q false) g f) from (x.to, to, subst (Contains k.edges) is found.1)
+      subst (λ (g : Elem). IsRowFrom k (role_by_place q false) g f) from (x.to, to, subst (Contains k.edges) is found.1)
 
-  individuals_there : (q : ℕ) (e f : Elem) → IsRowFrom k (role_of q false) e f → Contains (table_of k) (RoleRow q e f)
+  individuals_there : (q : ℕ) (e f : Elem) → IsRowFrom k (role_by_place q false) e f → Contains (table_of k) (RoleRow q e f)
   individuals_there q (elem.Named n) f there =
       let row = map_contains individual_row k.edges (edge_of false q n there.0) there.2 in
       rest_there (RoleRow q (elem.Named n) f) (Contains-append_left among (witness_rows 0 k.roles) (RoleRow q (elem.Named n) f) (subst (λ (g : Elem). Contains among (RoleRow q (elem.Named n) g)) (sym there.1) row))
   individuals_there q (elem.Shared w) f there = absurd there
 
-  points_there : (q : ℕ) (b : Bool) (e f : Elem) → PointsHere k (role_of q b) e f → Contains (table_of k) (edge_row (role_of q b) e f)
+  points_there : (q : ℕ) (b : Bool) (e f : Elem) → PointsHere k (role_by_place q b) e f → Contains (table_of k) (edge_row (role_by_place q b) e f)
   points_there q b e f there =
       let same : 0 + q ≡ q = omega arith in
-      let row : Contains (witness_rows 0 k.roles) (witness_row (role_of q b) (lists_in k.roles q b) e) = subst (λ (n : ℕ). Contains (witness_rows 0 k.roles) (witness_row (role_of n b) (lists_in k.roles q b) e)) same (witness_there 0 q k.roles b e there.0) in
-      rest_there (edge_row (role_of q b) e f) (Contains-append_right among (witness_rows 0 k.roles) (edge_row (role_of q b) e f) (subst (λ (g : Elem). Contains (witness_rows 0 k.roles) (edge_row (role_of q b) e g)) (sym there.1) row))
+      let row : Contains (witness_rows 0 k.roles) (witness_row (role_by_place q b) (lists_in k.roles q b) e) = subst (λ (n : ℕ). Contains (witness_rows 0 k.roles) (witness_row (role_by_place n b) (lists_in k.roles q b) e)) same (witness_there 0 q k.roles b e there.0) in
+      rest_there (edge_row (role_by_place q b) e f) (Contains-append_right among (witness_rows 0 k.roles) (edge_row (role_by_place q b) e f) (subst (λ (g : Elem). Contains (witness_rows 0 k.roles) (edge_row (role_by_place q b) e g)) (sym there.1) row))
 
-  direct_kept : (q : ℕ) (e f : Elem) → Contains (table_of k) (RoleRow q e f) → IsKeptEdge k (role_of q false) e f
+  direct_kept : (q : ℕ) (e f : Elem) → Contains (table_of k) (RoleRow q e f) → IsKeptEdge k (role_by_place q false) e f
   direct_kept q e f there = elim (Contains-append_cases (concept_rows 0 k.concepts) (among ++ witness_rows 0 k.roles) (RoleRow q e f) there) [
     | inl here ↦ (let found = concept_from 0 k.concepts (RoleRow q e f) here in absurd (concept_apart (0 + found.0) q found.1 e f found.2))
     | inr rest ↦ elim (Contains-append_cases among (witness_rows 0 k.roles) (RoleRow q e f) rest) [
@@ -216,7 +216,7 @@ module _ (k : KeptRows) where
     ]
   ]
 
-  direct_there : (q : ℕ) (e f : Elem) → IsKeptEdge k (role_of q false) e f → Contains (table_of k) (RoleRow q e f)
+  direct_there : (q : ℕ) (e f : Elem) → IsKeptEdge k (role_by_place q false) e f → Contains (table_of k) (RoleRow q e f)
   direct_there q e f (inl row) = individuals_there q e f row
   direct_there q e f (inr (inl forth)) = points_there q false e f forth
   direct_there q e f (inr (inr back)) = points_there q true f e back
@@ -224,25 +224,25 @@ module _ (k : KeptRows) where
   -- ---- of all roles
 
   -- read the other way
-  row_turned : (q : ℕ) (e f : Elem) → IsRowFrom k (role_of q false) e f → IsRowFrom k (role_of q true) f e
-  row_turned q (elem.Named n) f there = subst (λ (g : Elem). IsRowFrom k (role_of q true) g (elem.Named n)) (sym there.1) (n, refl, there.2)
+  row_turned : (q : ℕ) (e f : Elem) → IsRowFrom k (role_by_place q false) e f → IsRowFrom k (role_by_place q true) f e
+  row_turned q (elem.Named n) f there = subst (λ (g : Elem). IsRowFrom k (role_by_place q true) g (elem.Named n)) (sym there.1) (n, refl, there.2)
   row_turned q (elem.Shared w) f there = absurd there
 
-  row_back : (q : ℕ) (e f : Elem) → IsRowFrom k (role_of q true) f e → IsRowFrom k (role_of q false) e f
-  row_back q e (elem.Named m) there = subst (λ (g : Elem). IsRowFrom k (role_of q false) g (elem.Named m)) (sym there.1) (m, refl, there.2)
+  row_back : (q : ℕ) (e f : Elem) → IsRowFrom k (role_by_place q true) f e → IsRowFrom k (role_by_place q false) e f
+  row_back q e (elem.Named m) there = subst (λ (g : Elem). IsRowFrom k (role_by_place q false) g (elem.Named m)) (sym there.1) (m, refl, there.2)
   row_back q e (elem.Shared w) there = absurd there
 
-  turned_kept : (q : ℕ) (e f : Elem) → IsKeptEdge k (role_of q false) f e → IsKeptEdge k (role_of q true) e f
+  turned_kept : (q : ℕ) (e f : Elem) → IsKeptEdge k (role_by_place q false) f e → IsKeptEdge k (role_by_place q true) e f
   turned_kept q e f (inl row) = inl (row_turned q f e row)
   turned_kept q e f (inr (inl forth)) = inr (inr forth)
   turned_kept q e f (inr (inr back)) = inr (inl back)
 
-  kept_turned : (q : ℕ) (e f : Elem) → IsKeptEdge k (role_of q true) e f → IsKeptEdge k (role_of q false) f e
+  kept_turned : (q : ℕ) (e f : Elem) → IsKeptEdge k (role_by_place q true) e f → IsKeptEdge k (role_by_place q false) f e
   kept_turned q e f (inl row) = inl (row_back q f e row)
   kept_turned q e f (inr (inl back)) = inr (inr back)
   kept_turned q e f (inr (inr forth)) = inr (inl forth)
 
-  kept_by : (q : ℕ) (b : Bool) (e f : Elem) → Contains (table_of k) (edge_row (role_of q b) e f) ↔ IsKeptEdge k (role_of q b) e f
+  kept_by : (q : ℕ) (b : Bool) (e f : Elem) → Contains (table_of k) (edge_row (role_by_place q b) e f) ↔ IsKeptEdge k (role_by_place q b) e f
   kept_by q false e f = (direct_kept q e f, direct_there q e f)
   kept_by q true e f = (λ c. turned_kept q e f (direct_kept q f e c), λ kept. direct_there q f e (kept_turned q e f kept))
 

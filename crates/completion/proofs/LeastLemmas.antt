@@ -4,7 +4,7 @@ use Rattle.std.specs.declared.cmp.Ordering.TheVariants.{Greater}
 use Rattle.dl_base.specs.Tables.{AreCounted, IsAbove, IsLeastAbove, elem_cmp}
 use Rattle.dl_base.specs.declared.element.Elem.{Elem}
 use Rattle.dl_base.proofs.ElemLemmas.{upto_trans}
-use Rattle.completion.specs.Least.{IsLesser, IsUpTo}
+use Rattle.completion.specs.Least.{IsLesserElement, IsUpTo}
 
 -- what is true of the same elements has the same least one, and as many
 pub least_as : (P Q : Elem → Type 0) (after r : Option Elem) → ((e : Elem) → P e → Q e) → ((e : Elem) → Q e → P e) → IsLeastAbove P after r → IsLeastAbove Q after r
@@ -36,7 +36,7 @@ module _ (P Q : Elem → Type 0) (after : Option Elem) where
   second : (x : Elem) (e : Option Elem) → IsLeastAbove P after e → IsLeastAbove Q after (Some x) → IsUpTo x e → IsLeastAbove (λ y. P y ⊎ Q y) after (Some x)
   second x e other least upto = (inr least.0, least.1, λ g either above. elim either [ inl p ↦ past P x e other upto g p above | inr q ↦ least.2 g q above ])
 
-  pub least_of_both : (e f r : Option Elem) → IsLeastAbove P after e → IsLeastAbove Q after f → IsLesser e f r → IsLeastAbove (λ y. P y ⊎ Q y) after r
+  pub least_of_both : (e f r : Option Elem) → IsLeastAbove P after e → IsLeastAbove Q after f → IsLesserElement e f r → IsLeastAbove (λ y. P y ⊎ Q y) after r
   least_of_both e f None p q (none, also) = λ g either above. elim either [
     | inl h ↦ subst (IsLeastAbove P after) none p g h above
     | inr h ↦ subst (IsLeastAbove Q after) also q g h above

@@ -12,7 +12,7 @@ use Rattle.assert_tables.specs.Rows.{IsNumberAbove, IsNextIndividual, individual
 use Rattle.assert_tables.proofs.CountLemmas.{named_individual}
 use Rattle.assert_tables.proofs.LeftLemmas.{above_on}
 use Rattle.completion.specs.Individuals.{AreAtIndividuals, IsAt, IsKept, found_at}
-use Rattle.completion.specs.Numbered.{IsNamed, IsPointedTo, PointsTo}
+use Rattle.completion.specs.Numbered.{IsRowNamed, IsPointedTo, PointsTo}
 use Rattle.completion.specs.declared.individuals.AtIndividual.{AtIndividual}
 use Rattle.dl_base.specs.Ontology.{Terminology}
 use Rattle.dl_base.specs.Sets.{HasRole}
@@ -70,13 +70,13 @@ gone_few rows after start steps gone =
 
 -- up to that one each individual of the rows is kept, and no other number
 pub record KeptUpTo (o : Terminology) (rows : List Row) (after : Option ℕ) (map : List (ℕ × AtIndividual)) : Type 0 where
-  pub sound : (n : ℕ) (x : AtIndividual) → found_at map n ≡ Some x → IsNamed rows n × IsAt o rows n x
-  pub each : (n : ℕ) → IsNamed rows n → (IsNumberAbove after n → ⊥) → IsKept map n
+  pub sound : (n : ℕ) (x : AtIndividual) → found_at map n ≡ Some x → IsRowNamed rows n × IsAt o rows n x
+  pub each : (n : ℕ) → IsRowNamed rows n → (IsNumberAbove after n → ⊥) → IsKept map n
 
 -- the roles to which these point were added
 pub record PointedUpTo (o : Terminology) (rows : List Row) (after : Option ℕ) (old pointed : List ℕ) : Type 0 where
   pub sound : (r : Role) → HasRole pointed r → IsPointedTo o rows r ⊎ HasRole old r
-  pub each : (r : Role) (n : ℕ) → IsNamed rows n → (IsNumberAbove after n → ⊥) → PointsTo o rows n r → HasRole pointed r
+  pub each : (r : Role) (n : ℕ) → IsRowNamed rows n → (IsNumberAbove after n → ⊥) → PointsTo o rows n r → HasRole pointed r
   pub stays : (r : Role) → HasRole old r → HasRole pointed r
 
 pub kept_none : (o : Terminology) (rows : List Row) (map : List (ℕ × AtIndividual)) → map ≡ [] → KeptUpTo o rows None map
@@ -89,7 +89,7 @@ pub pointed_none : (o : Terminology) (rows : List Row) (old : List ℕ) → Poin
 pointed_none o rows old = record { sound = λ r h. inr h; each = λ r n named not points. absurd (not tt); stays = λ r h. h }
 
 -- an individual up to the next is the next, or one that was gone through
-next_or_gone : (rows : List Row) (after : Option ℕ) (i n : ℕ) → IsNextIndividual rows after (Some i) → IsNamed rows n → (i < n → ⊥) → (n ≡ i) ⊎ (IsNumberAbove after n → ⊥)
+next_or_gone : (rows : List Row) (after : Option ℕ) (i n : ℕ) → IsNextIndividual rows after (Some i) → IsRowNamed rows n → (i < n → ⊥) → (n ≡ i) ⊎ (IsNumberAbove after n → ⊥)
 next_or_gone rows after i n next named not = elim (cases_order n i) [
   | inl same ↦ inl same
   | inr rest ↦ elim rest [ inl less ↦ inr (λ above. next.2 named.0 n named.1 named.2 above less) | inr more ↦ absurd (not more) ]
@@ -122,7 +122,7 @@ module _ (old new : List (ℕ × AtIndividual)) (i : ℕ) (x : AtIndividual) (up
   pub kept_more : (o : Terminology) (rows : List Row) (after : Option ℕ) → IsNextIndividual rows after (Some i) → IsAt o rows i x → KeptUpTo o rows after old → KeptUpTo o rows (Some i) new
   kept_more o rows after next at far = record {
     sound = λ n y found. elim (found_cases n y found) [
-      | inl here ↦ (subst (IsNamed rows) (sym here.0) next.1, subst (IsAt o rows n) (sym here.1) (subst (λ (m : ℕ). IsAt o rows m x) (sym here.0) at))
+      | inl here ↦ (subst (IsRowNamed rows) (sym here.0) next.1, subst (IsAt o rows n) (sym here.1) (subst (λ (m : ℕ). IsAt o rows m x) (sym here.0) at))
       | inr before ↦ far.sound n y before
     ];
     each = λ n named not. elim (next_or_gone rows after i n next named not) [

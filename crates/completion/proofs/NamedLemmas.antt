@@ -4,7 +4,7 @@ use Rattle.std.proofs.lemmas.List.Elements.{All-contains_itself, All-weaker}
 use Rattle.std.proofs.lemmas.Option.{slice_get_within}
 use Rattle.assert_tables.specs.Rows.{IsNamedIn}
 use Rattle.dl_base.specs.Numbers.{NumbersRow, StandFor}
-use Rattle.completion.specs.Numbered.{GivesBasic, HoldsBy, IsLiveRole, IsNamed, IsRowOf, PointsTo}
+use Rattle.completion.specs.Numbered.{GivesBasic, HoldsBy, IsLiveRole, IsRowNamed, IsRowOf, PointsTo}
 use Rattle.dl_base.specs.Completion.{IndividualPoints, IsLive}
 use Rattle.dl_base.specs.Completion as completion
 use Rattle.dl_base.specs.Ontology.{Terminology, IsTerminology}
@@ -42,24 +42,24 @@ module _ (o : Terminology) (names : List (List ℕ)) (rows : List Row) (these : 
   named_by n (row.Concept d m) (named.Role p a b) there numbers e = absurd numbers
   named_by n (row.Role q k m) (named.Concept c a) there numbers e = absurd numbers
 
-  pub name_of : (n : ℕ) → IsNamed rows n → (a : List ℕ) × (slice_get names n ≡ Some a) × IsIndividual these a
+  pub name_of : (n : ℕ) → IsRowNamed rows n → (a : List ℕ) × (slice_get names n ≡ Some a) × IsIndividual these a
   name_of n (r, there, named_in) = let found = stand.only r there in named_by n r found.0 found.1 found.2 named_in
 
-  numbered_by : (a : List ℕ) (q : NamedRow) (r : Row) → Contains rows r → NumbersRow o names q r → Names a q → (n : ℕ) × (slice_get names n ≡ Some a) × IsNamed rows n
+  numbered_by : (a : List ℕ) (q : NamedRow) (r : Row) → Contains rows r → NumbersRow o names q r → Names a q → (n : ℕ) × (slice_get names n ≡ Some a) × IsRowNamed rows n
   numbered_by a (named.Concept c x) (row.Concept d m) there numbers e = (m, subst (λ (b : List ℕ). slice_get names m ≡ Some b) (sym e) numbers.1, (row.Concept d m, there, inl refl))
   numbered_by a (named.Role p x y) (row.Role q k m) there numbers (inl e) = (k, subst (λ (b : List ℕ). slice_get names k ≡ Some b) (sym e) numbers.1, (row.Role q k m, there, inl refl))
   numbered_by a (named.Role p x y) (row.Role q k m) there numbers (inr e) = (m, subst (λ (b : List ℕ). slice_get names m ≡ Some b) (sym e) numbers.2, (row.Role q k m, there, inr refl))
   numbered_by a (named.Concept c x) (row.Role q k m) there numbers e = absurd numbers
   numbered_by a (named.Role p x y) (row.Concept d m) there numbers e = absurd numbers
 
-  pub number_of : (a : List ℕ) → IsIndividual these a → (n : ℕ) × (slice_get names n ≡ Some a) × IsNamed rows n
+  pub number_of : (a : List ℕ) → IsIndividual these a → (n : ℕ) × (slice_get names n ≡ Some a) × IsRowNamed rows n
   number_of a (q, there, names_it) = let found = stand.each q there in numbered_by a q found.0 found.1 found.2 names_it
 
   pub one_number : (n m : ℕ) (a : List ℕ) → slice_get names n ≡ Some a → slice_get names m ≡ Some a → n ≡ m
   one_number n m a at_n at_m = one_place names n m a stand.distinct at_n at_m
 
-  pub named_individual : (n : ℕ) (a : List ℕ) → slice_get names n ≡ Some a → IsIndividual these a → IsNamed rows n
-  named_individual n a at is = let found = number_of a is in subst (IsNamed rows) (one_number found.0 n a found.1 at) found.2
+  pub named_individual : (n : ℕ) (a : List ℕ) → slice_get names n ≡ Some a → IsIndividual these a → IsRowNamed rows n
+  named_individual n a at is = let found = number_of a is in subst (IsRowNamed rows) (one_number found.0 n a found.1 at) found.2
 
   -- ---- what is held
 

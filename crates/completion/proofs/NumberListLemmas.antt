@@ -10,7 +10,7 @@ use Rattle.role_graph.proofs.ClashLemmas.{nat_less}
 use Rattle.dl_base.specs.declared.concept.Basic.TheVariants as basic
 use Rattle.dl_base.specs.declared.concept.Role.{Role}
 use Rattle.dl_base.proofs.PlaceLemmas.{last_place, place_stays, some_same}
-use Rattle.completion.specs.Gathered.{IsFoundWith, role_of}
+use Rattle.completion.specs.Gathered.{IsFoundWith, role_by_place}
 use Rattle.completion.specs.Numbers.{AreAddedToEach, AreNumberLists, AreNumbersWith, AreOfRole, AreRoleProperties, IsAddedTo, IsTakenFrom}
 use Rattle.completion.specs.declared.gather.Property.{Property}
 use Rattle.completion.specs.declared.gather.Property.TheVariants.{Derived, Pointing}
@@ -151,32 +151,32 @@ last_one : (xs : List Property) (x : Property) (k : ℕ) → k ≡ length xs →
 last_one xs x k e = subst (λ (n : ℕ). slice_get (xs ++ x ∷ []) n ≡ Some x) (sym e) (last_place xs x)
 
 abbrev pub four : ℕ → List Property → List Property
-four n ps = (((ps ++ Derived (basic.Exists (role_of n false)) ∷ []) ++ Pointing (role_of n false) ∷ []) ++ Derived (basic.Exists (role_of n true)) ∷ []) ++ Pointing (role_of n true) ∷ []
+four n ps = (((ps ++ Derived (basic.Exists (role_by_place n false)) ∷ []) ++ Pointing (role_by_place n false) ∷ []) ++ Derived (basic.Exists (role_by_place n true)) ∷ []) ++ Pointing (role_by_place n true) ∷ []
 
 pub roles_more : (n : ℕ) (ps : List Property) → AreRoleProperties n ps → AreRoleProperties (n + 1) (four n ps)
 roles_more n ps are = record {
   all = let many = are.all in let e = length_push ps a in let f = length_push one b in let g = length_push two c in let h = length_push three d in omega (arith, many, e, f, g, h);
   direct = λ p below. elim (cases_eq p n) [
-    | inl same ↦ subst (λ (q : ℕ). AreOfRole (four n ps) (4 * q) (role_of q false)) (sym same) here
-    | inr other ↦ more (4 * p) (role_of p false) (are.direct p (omega (arith, below, other)))
+    | inl same ↦ subst (λ (q : ℕ). AreOfRole (four n ps) (4 * q) (role_by_place q false)) (sym same) here
+    | inr other ↦ more (4 * p) (role_by_place p false) (are.direct p (omega (arith, below, other)))
   ];
   inverse = λ p below. elim (cases_eq p n) [
-    | inl same ↦ subst (λ (q : ℕ). AreOfRole (four n ps) (4 * q + 2) (role_of q true)) (sym same) behind
-    | inr other ↦ more (4 * p + 2) (role_of p true) (are.inverse p (omega (arith, below, other)))
+    | inl same ↦ subst (λ (q : ℕ). AreOfRole (four n ps) (4 * q + 2) (role_by_place q true)) (sym same) behind
+    | inr other ↦ more (4 * p + 2) (role_by_place p true) (are.inverse p (omega (arith, below, other)))
   ];
 }
   where
     a : Property
-    a = Derived (basic.Exists (role_of n false))
+    a = Derived (basic.Exists (role_by_place n false))
 
     b : Property
-    b = Pointing (role_of n false)
+    b = Pointing (role_by_place n false)
 
     c : Property
-    c = Derived (basic.Exists (role_of n true))
+    c = Derived (basic.Exists (role_by_place n true))
 
     d : Property
-    d = Pointing (role_of n true)
+    d = Pointing (role_by_place n true)
 
     one : List Property
     one = ps ++ a ∷ []
@@ -193,13 +193,13 @@ roles_more n ps are = record {
     more : (k : ℕ) (r : Role) → AreOfRole ps k r → AreOfRole (four n ps) k r
     more k r there = record { leads = keep k (Derived (basic.Exists r)) there.leads; points = keep (k + 1) (Pointing r) there.points }
 
-    here : AreOfRole (four n ps) (4 * n) (role_of n false)
+    here : AreOfRole (four n ps) (4 * n) (role_by_place n false)
     here = record {
       leads = let many = are.all in place_stays three (d ∷ []) (4 * n) a (place_stays two (c ∷ []) (4 * n) a (place_stays one (b ∷ []) (4 * n) a (last_one ps a (4 * n) (omega (arith, many)))));
       points = let many = are.all in let e = length_push ps a in place_stays three (d ∷ []) (4 * n + 1) b (place_stays two (c ∷ []) (4 * n + 1) b (last_one one b (4 * n + 1) (omega (arith, many, e))));
     }
 
-    behind : AreOfRole (four n ps) (4 * n + 2) (role_of n true)
+    behind : AreOfRole (four n ps) (4 * n + 2) (role_by_place n true)
     behind = record {
       leads = let many = are.all in let e = length_push ps a in let f = length_push one b in place_stays three (d ∷ []) (4 * n + 2) c (last_one two c (4 * n + 2) (omega (arith, many, e, f)));
       points = let many = are.all in let e = length_push ps a in let f = length_push one b in let g = length_push two c in last_one three d (4 * n + 2 + 1) (omega (arith, many, e, f, g));

@@ -52,8 +52,8 @@ abbrev pub AreElemsWith : Terminology → List (ℕ × AtIndividual) → Witness
 AreElemsWith o list b p es = (e : Elem) → Contains es e ↔ IsElemWith o list b p e
 
 -- the role with this name, or its inverse
-abbrev pub role_of : ℕ → Bool → Role
-role_of p inverse = record { name = p; inverse = inverse }
+abbrev pub role_by_place : ℕ → Bool → Role
+role_by_place p inverse = record { name = p; inverse = inverse }
 
 -- what was gathered for a role: the elements from which it leads, those that point to its witness, and its generation
 pub record AreRoleLists (o : Terminology) (list : List (ℕ × AtIndividual)) (b : Witnesses) (r : Role) (x : RoleLists) : Type 0 where

@@ -9,7 +9,7 @@ use Rattle.dl_base.specs.Sets.{HasRole}
 use Rattle.dl_base.specs.declared.concept.Role.{Role}
 use Rattle.dl_base.specs.declared.row.Row.{Row}
 use Rattle.horn_closure.specs.Closure.{IsClosure}
-use Rattle.completion.specs.Numbered.{HoldsBy, IsNamed, PointsTo}
+use Rattle.completion.specs.Numbered.{HoldsBy, IsRowNamed, PointsTo}
 use Rattle.completion.specs.declared.individuals.AtIndividual.{AtIndividual}
 
 -- what the list has for a number
@@ -27,7 +27,7 @@ pub record IsAt (o : Terminology) (rows : List Row) (n : ℕ) (x : AtIndividual)
 
 -- the list has something for each individual of the rows and for no other number, and it is what is derived there
 pub record AreAtIndividuals (o : Terminology) (rows : List Row) (list : List (ℕ × AtIndividual)) : Type 0 where
-  pub each : (n : ℕ) → IsKept list n ↔ IsNamed rows n
+  pub each : (n : ℕ) → IsKept list n ↔ IsRowNamed rows n
   pub derived : (n : ℕ) (x : AtIndividual) → found_at list n ≡ Some x → IsAt o rows n x
 
 -- the least of these numbers above that one, or of all, and none exactly where there is none

@@ -10,6 +10,6 @@ IsUpTo e None = Unit {0}
 IsUpTo e (Some f) = elem_cmp e f ≢ Greater
 
 -- one of the two that isn't above the other, or none exactly where there is none
-abbrev pub IsLesser : Option Elem → Option Elem → Option Elem → Type 0
-IsLesser e f None = (e ≡ None) × (f ≡ None)
-IsLesser e f (Some x) = ((e ≡ Some x) ⊎ (f ≡ Some x)) × IsUpTo x e × IsUpTo x f
+abbrev pub IsLesserElement : Option Elem → Option Elem → Option Elem → Type 0
+IsLesserElement e f None = (e ≡ None) × (f ≡ None)
+IsLesserElement e f (Some x) = ((e ≡ Some x) ⊎ (f ≡ Some x)) × IsUpTo x e × IsUpTo x f

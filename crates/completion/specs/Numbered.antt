@@ -30,8 +30,8 @@ abbrev pub HoldsBy : List Row → ℕ → Basic → Type 0
 HoldsBy rows n b = (r : Row) × Contains rows r × GivesBasic r n b
 
 -- some row names the individual of this number
-abbrev pub IsNamed : List Row → ℕ → Type 0
-IsNamed rows n = (r : Row) × Contains rows r × IsNamedIn n r
+abbrev pub IsRowNamed : List Row → ℕ → Type 0
+IsRowNamed rows n = (r : Row) × Contains rows r × IsNamedIn n r
 
 -- what is derived at the individual of this number
 abbrev pub IsDerivedAt : Terminology → List Row → ℕ → Basic → Type 0
@@ -44,7 +44,7 @@ pub record PointsTo (o : Terminology) (rows : List Row) (n : ℕ) (r : Role) : T
 
 -- an individual points to the witness of the role
 abbrev pub IsPointedTo : Terminology → List Row → Role → Type 0
-IsPointedTo o rows r = (n : ℕ) × IsNamed rows n × PointsTo o rows n r
+IsPointedTo o rows r = (n : ℕ) × IsRowNamed rows n × PointsTo o rows n r
 
 -- a role is live where a finite chain of points leads to it from an individual
 abbrev pub IsLiveRole : Terminology → List Row → Role → Type 0

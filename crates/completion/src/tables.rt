@@ -1,6 +1,6 @@
 //! How the rows of completed tables are read.
 ghost use Rattle.std.specs.Prelude.{◌≡◌};
-ghost use Rattle.completion.specs.Least.{IsLesser};
+ghost use Rattle.completion.specs.Least.{IsLesserElement};
 ghost use Rattle.completion.specs.TableRows.{table_of};
 
 use crate::Completed;
@@ -147,7 +147,7 @@ impl Tables for Completed {
 
 /// The lesser of two elements, or the only one.
 fn lesser(e: Option<Elem>, f: Option<Elem>) -> Option<Elem>
-    ensures { IsLesser e f result }
+    ensures { IsLesserElement e f result }
 {
     match (e, f) {
         (Some(a), Some(b)) => if b < a { f } else { e },

@@ -5,7 +5,7 @@ use Rattle.std.proofs.lemmas.Bool.{cases_order}
 use Rattle.std.proofs.lemmas.List.Elements.{Contains-append_left, Contains-push}
 use Rattle.std.proofs.lemmas.Option.{slice_get_within, slice_get-get_or}
 use Rattle.assert_tables.specs.Rows.{AreRisingRows, Gains, IsNamedIn}
-use Rattle.completion.specs.Numbered.{IsNamed, IsRowOf}
+use Rattle.completion.specs.Numbered.{IsRowNamed, IsRowOf}
 use Rattle.completion.proofs.NamedLemmas.{rows_placed}
 use Rattle.dl_base.specs.Numbers.{NumbersRow, StandFor, names_in}
 use Rattle.dl_base.specs.Rows.{numbered_row_cmp}
@@ -227,7 +227,7 @@ named_within o names (named.Concept c a) (row.Role k m l) n e which = absurd e
 named_within o names (named.Role p a b) (row.Concept k m) n e which = absurd e
 
 -- and their individuals have names
-pub individuals_within : (o : Terminology) (asserted : List NamedRow) (facts : Facts) → KeepsFacts o asserted facts → (n : ℕ) → IsNamed facts.rows n → n < length facts.individuals
+pub individuals_within : (o : Terminology) (asserted : List NamedRow) (facts : Facts) → KeepsFacts o asserted facts → (n : ℕ) → IsRowNamed facts.rows n → n < length facts.individuals
 individuals_within o asserted facts k n (x, there, which) =
     let found = k.stand.only x there in
     named_within o facts.individuals found.0 x n found.2 which

@@ -1,6 +1,6 @@
 -- What a document has to be for its answers.
 use Rattle.std.specs.Prelude.{ℕ, ◌<◌, List, All, length}
-use Rattle.completion.specs.Numbered.{IsNamed, IsRowOf}
+use Rattle.completion.specs.Numbered.{IsRowNamed, IsRowOf}
 use Rattle.dl_base.specs.Ontology.{Terminology}
 use Rattle.dl_base.specs.Query.{Question}
 use Rattle.dl_base.specs.declared.row.Row.{Row}
@@ -10,7 +10,7 @@ use Rattle.document_run.specs.declared.document.Document.{Document}
 -- the rows are of concepts and roles of the ontology, and of individuals that have a name; and the ontology has the query's names
 pub record IsSoundDocument (document : Document) : Type 0 where
   pub within : All (IsRowOf document.ontology) document.facts.rows
-  pub numbered : (n : ℕ) → IsNamed document.facts.rows n → n < length document.facts.individuals
+  pub numbered : (n : ℕ) → IsRowNamed document.facts.rows n → n < length document.facts.individuals
   pub known : All (IsKnown document.ontology) document.asked.atoms
 
 -- the document of this ontology, these individuals, their rows and this query

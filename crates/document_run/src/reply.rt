@@ -3,7 +3,7 @@ ghost use Rattle.std.specs.Prelude.{◌≡◌, ◌<◌, IfOk, All, List, ℕ};
 ghost use Rattle.completion.specs.Individuals.{IsKept};
 ghost use Rattle.completion.specs.Named.{IsNamedCompletion};
 ghost use Rattle.dl_base.specs.Numbers.{StandFor};
-ghost use Rattle.completion.specs.Numbered.{IsNamed, IsRowOf};
+ghost use Rattle.completion.specs.Numbered.{IsRowNamed, IsRowOf};
 ghost use Rattle.dl_base.specs.Answers.{AreAnswers};
 ghost use Rattle.dl_base.specs.Ontology.{IsTerminology};
 ghost use Rattle.dl_base.specs.Query.{IsQuery};
@@ -85,7 +85,7 @@ fn completed<L: Ledger>(
 ) -> Result<(RoleGraph, Completed), AllocError>
     requires { All (IsRowOf ontology.now) rows.now }
     ensures graph { IfOk result (λ made. IsGraphOf ontology.now made.0) }
-    ensures kept { IfOk result (λ made. (n : ℕ) → IsKept made.1.individuals n → IsNamed rows.now n) }
+    ensures kept { IfOk result (λ made. (n : ℕ) → IsKept made.1.individuals n → IsRowNamed rows.now n) }
     ensures named { (names : List (List ℕ)) (these : List NamedRow) → StandFor ontology.now names rows.now these
         → IfOk result (λ made. IsNamedCompletion ontology.now names these made.1) }
 {

@@ -10,7 +10,7 @@ use Rattle.dl_base.specs.declared.query.Term.TheVariants as term
 use Rattle.dl_base.proofs.PlaceLemmas.{last_place, place_stays, some_same, something_at}
 use Rattle.query_shape.specs.Shape.{Layout}
 use Rattle.query_shape.specs.declared.layout.ShapeAtom.{ShapeAtom}
-use Rattle.join_plan.specs.Plans.{IsNamed}
+use Rattle.join_plan.specs.Plans.{IsNameTerm}
 use Rattle.join_plan.specs.Choice.{HasDearer, IsCheapest, IsMarked, IsNoDearer, IsOfferFor, IsSized}
 use Rattle.join_plan.specs.declared.candidates.Candidate.{Candidate}
 use Rattle.join_plan.specs.declared.offers.Choice.{Choice}
@@ -103,7 +103,7 @@ candidates_more table atoms left n c place at sized places there all = (
 )
 
 pub names_more : (s : Layout) (known : List Bool) (n : ℕ) (b : Bool) (t : Term) → length known ≡ n → slice_get s.terms n ≡ Some t → IsTrue b ↔ ((name : List ℕ) × (t ≡ term.Named name))
-    → ((k : ℕ) → k < n → IsMarked known k ↔ IsNamed s k) → (k : ℕ) → k < n + 1 → IsMarked (known ++ b ∷ []) k ↔ IsNamed s k
+    → ((k : ℕ) → k < n → IsMarked known k ↔ IsNameTerm s k) → (k : ℕ) → k < n + 1 → IsMarked (known ++ b ∷ []) k ↔ IsNameTerm s k
 names_more s known n b t count there is before k below = by (split k)
   where
     split : (j : ℕ) → (j < n) ⊎ (n ≤ j)
@@ -121,7 +121,7 @@ names_more s known n b t count there is before k below = by (split k)
     marked true h = refl
     marked false h = h
 
-    by : (k < n) ⊎ (n ≤ k) → IsMarked (known ++ b ∷ []) k ↔ IsNamed s k
+    by : (k < n) ⊎ (n ≤ k) → IsMarked (known ++ b ∷ []) k ↔ IsNameTerm s k
     by (inl lt) = (
       λ m. (before k lt).0 (sym (earlier lt) ∙ m),
       λ m. earlier lt ∙ (before k lt).1 m,
@@ -132,7 +132,7 @@ names_more s known n b t count there is before k below = by (split k)
           λ m. last le ∙ ap Some (marked b (is.1 (m.0, some_same (sym (rw here there) ∙ m.1)))),
         )
 
-pub names_all : (s : Layout) (known : List Bool) (n : ℕ) → length s.terms ≤ n → length known ≡ n → ((k : ℕ) → k < n → IsMarked known k ↔ IsNamed s k) → (k : ℕ) → IsMarked known k ↔ IsNamed s k
+pub names_all : (s : Layout) (known : List Bool) (n : ℕ) → length s.terms ≤ n → length known ≡ n → ((k : ℕ) → k < n → IsMarked known k ↔ IsNameTerm s k) → (k : ℕ) → IsMarked known k ↔ IsNameTerm s k
 names_all s known n past count each k = (
   λ m. (each k (let within : k < length known = slice_get_within known k true m in omega arith)).0 m,
   λ m. (each k (let within : k < length s.terms = slice_get_within s.terms k (term.Named m.0) m.1 in omega arith)).1 m,

@@ -9,7 +9,7 @@ use Rattle.dl_base.proofs.RisingLemmas.{contains_cases, contains_first, contains
 use Rattle.query_shape.specs.Shape.{IsTermOf}
 use Rattle.query_shape.specs.declared.layout.ShapeAtom.{ShapeAtom}
 use Rattle.query_shape.specs.declared.layout.ShapeAtom.TheVariants as shape
-use Rattle.join_plan.specs.Plans.{IsTermKnown, IsLeft, IsNamed, IsNextStep, IsNoLarger, IsPlanOf}
+use Rattle.join_plan.specs.Plans.{IsTermKnown, IsLeft, IsNameTerm, IsNextStep, IsNoLarger, IsPlanOf}
 use Rattle.join_plan.specs.PlanLaws.{BeginsWithB, FromTheName, NotWithA, OnePartAtATime, a_and_b, b_first, from_c, role_r, two_in_a}
 use Rattle.join_plan.specs.declared.steps.AccessPath.TheVariants as path
 use Rattle.join_plan.specs.declared.steps.Step.{Step}
@@ -20,7 +20,7 @@ has_term : (a : ShapeAtom) → (k : ℕ) × IsTermOf k a
 has_term (shape.Concept c n) = (n, refl)
 has_term (shape.Role r n m) = (n, inl refl)
 
-no_name : (k : ℕ) → IsNamed a_and_b k → ⊥
+no_name : (k : ℕ) → IsNameTerm a_and_b k → ⊥
 no_name zero h = let e = h.1 in cc
 no_name (suc zero) h = let e = h.1 in cc
 no_name (suc (suc k)) h = let e = h.1 in cc

@@ -19,16 +19,16 @@ abbrev pub places : List Step → List ℕ
 places steps = map (λ step. step.atom) steps
 
 -- the term is a name
-abbrev pub IsNamed : Layout → ℕ → Type 0
-IsNamed s k = (name : List ℕ) × (slice_get s.terms k ≡ Some (term.Named name))
+abbrev pub IsNameTerm : Layout → ℕ → Type 0
+IsNameTerm s k = (name : List ℕ) × (slice_get s.terms k ≡ Some (term.Named name))
 
 -- the term is in the atom of one of these steps
-abbrev pub IsReached : Layout → List Step → ℕ → Type 0
-IsReached s before k = (step : Step) × (a : ShapeAtom) × Contains before step × (slice_get s.atoms step.atom ≡ Some a) × IsTermOf k a
+abbrev pub IsTermReached : Layout → List Step → ℕ → Type 0
+IsTermReached s before k = (step : Step) × (a : ShapeAtom) × Contains before step × (slice_get s.atoms step.atom ≡ Some a) × IsTermOf k a
 
 -- the term is known behind these steps: it is a name, or the atom of one of them has it
 abbrev pub IsTermKnown : Layout → List Step → ℕ → Type 0
-IsTermKnown s before k = IsNamed s k ⊎ IsReached s before k
+IsTermKnown s before k = IsNameTerm s k ⊎ IsTermReached s before k
 
 -- the atom at this place, which none of these steps has
 abbrev pub IsLeft : Layout → List Step → ℕ → ShapeAtom → Type 0

@@ -2,7 +2,7 @@
 ghost use Rattle.std.specs.Prelude.{◌≡◌, ◌⊎◌, ◌↔◌, ◌<◌, ℕ, List, All, IfOk, IsTrue, length};
 ghost use Rattle.dl_base.specs.declared.query.Term.TheVariants as term;
 ghost use Rattle.query_shape.specs.Shape.{IsBelow, IsTermOf};
-ghost use Rattle.join_plan.specs.Plans.{IsNamed};
+ghost use Rattle.join_plan.specs.Plans.{IsNameTerm};
 ghost use Rattle.join_plan.specs.Choice.{IsMarked};
 
 use dl_base::Term;
@@ -12,7 +12,7 @@ use std::alloc::{AllocError, Global};
 /// A mark for each term, which is set where the term is a name.
 pub(crate) fn marked_names(alloc: Global, s: &Shape) -> Result<Vec<bool>, AllocError>
     ensures len { IfOk result (λ known. length known.items ≡ length s.now.terms) }
-    ensures each { IfOk result (λ known. (k : ℕ) → IsMarked known.items k ↔ IsNamed s.now k) }
+    ensures each { IfOk result (λ known. (k : ℕ) → IsMarked known.items k ↔ IsNameTerm s.now k) }
 {
     let mut known = Vec::with_capacity(alloc, s.terms())?;
     for number in 0..s.terms() {

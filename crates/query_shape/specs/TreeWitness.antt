@@ -38,5 +38,5 @@ TopsAgree atoms images r t = (s : ℕ) → TreeWitness atoms r t s [] → slice_
 
 -- The images pass: where an atom leads by the role from t to a term on the role's witness, the tree witness exists, and its terms
 -- with the empty list have one image.
-abbrev pub Passes : List ShapeAtom → List Elem → Type 0
-Passes atoms images = (r : Role) (t u : ℕ) → IsOriented atoms r t u → IsOn images r u → HasTreeWitness atoms r t × TopsAgree atoms images r t
+abbrev pub PassesTrees : List ShapeAtom → List Elem → Type 0
+PassesTrees atoms images = (r : Role) (t u : ℕ) → IsOriented atoms r t u → IsOn images r u → HasTreeWitness atoms r t × TopsAgree atoms images r t

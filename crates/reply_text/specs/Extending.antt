@@ -2,6 +2,6 @@
 use Rattle.std.specs.Prelude.{◌≡◌, ℕ, List, ◌++◌}
 
 -- what was there is there, and more may stand behind it
-pub record Extends (old new : List ℕ) : Type 0 where
+pub record IsAppendedTo (old new : List ℕ) : Type 0 where
   pub more : List ℕ
   pub is : new ≡ old ++ more

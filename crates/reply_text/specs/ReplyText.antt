@@ -27,12 +27,12 @@ abbrev pub key_line : List (List ℕ) → List ℕ
 key_line key = spaced_line (codes "answer") key
 
 -- `end`, and the number of lines before it
-abbrev pub end_line : ℕ → List ℕ
-end_line count = spaced_line (codes "end") (decimal count ∷ [])
+abbrev pub end_count_line : ℕ → List ℕ
+end_count_line count = spaced_line (codes "end") (decimal count ∷ [])
 
 -- a line for each key, and one with their number
 abbrev pub answers_text : List (List (List ℕ)) → List ℕ
-answers_text keys = flat_map key_line keys ++ end_line (length keys)
+answers_text keys = flat_map key_line keys ++ end_count_line (length keys)
 
 -- ---- tables
 
@@ -42,7 +42,7 @@ ended_line line = line ++ 10 ∷ []
 
 -- the lines, and one with their number
 abbrev pub table_text : List (List ℕ) → List ℕ
-table_text lines = flat_map ended_line lines ++ end_line (length lines)
+table_text lines = flat_map ended_line lines ++ end_count_line (length lines)
 
 -- ---- handles
 

@@ -2,8 +2,8 @@
 ghost use Rattle.std.specs.Prelude.{◌≡◌, ◌++◌, [], ◌∷◌, map, OnOk, OnErr};
 ghost use Rattle.std.specs.List.{flat_map};
 ghost use Rattle.std.specs.Fmt.{decimal};
-ghost use Rattle.reply_text.specs.Extending.{Extends};
-ghost use Rattle.reply_text.specs.ReplyText.{IsAcknowledgement, answers_text, behind_spaces, cause_word, clash_text, end_line, ended_line, error_number, error_text, error_words, key_line, path_words, prepared_text, role_text, table_text, text_of_reply};
+ghost use Rattle.reply_text.specs.Extending.{IsAppendedTo};
+ghost use Rattle.reply_text.specs.ReplyText.{IsAcknowledgement, answers_text, behind_spaces, cause_word, clash_text, end_count_line, ended_line, error_number, error_text, error_words, key_line, path_words, prepared_text, role_text, table_text, text_of_reply};
 
 use crate::ack::ack_bytes;
 use crate::reply::{Refusal, Reply};
@@ -31,7 +31,7 @@ pub fn reply_bytes(reply: &Reply, out: &mut Vec<u8>) -> Result<(), AllocError>
 
 fn append_reply(reply: &Reply, out: &mut Vec<u8>) -> Result<(), AllocError>
     ensures written { OnOk result (out.new.items ≡ out.old.items ++ text_of_reply reply.now) }
-    ensures more { OnErr result (Extends out.old.items out.new.items) }
+    ensures more { OnErr result (IsAppendedTo out.old.items out.new.items) }
 {
     match reply {
         Reply::Prepared(handle) => append_prepared(*handle, out),
@@ -48,7 +48,7 @@ fn append_reply(reply: &Reply, out: &mut Vec<u8>) -> Result<(), AllocError>
 fn append_ack(reply: &Reply, out: &mut Vec<u8>) -> Result<(), AllocError>
     requires { IsAcknowledgement reply.now }
     ensures written { OnOk result (out.new.items ≡ out.old.items ++ text_of_reply reply.now) }
-    ensures more { OnErr result (Extends out.old.items out.new.items) }
+    ensures more { OnErr result (IsAppendedTo out.old.items out.new.items) }
 {
     let mut buf = [0; 80];
     let len = ack_bytes(reply, &mut buf);
@@ -58,7 +58,7 @@ fn append_ack(reply: &Reply, out: &mut Vec<u8>) -> Result<(), AllocError>
 /// Appends a space and the word.
 fn append_word(word: &[u8], out: &mut Vec<u8>) -> Result<(), AllocError>
     ensures written { OnOk result (out.new.items ≡ out.old.items ++ 32 ∷ word.now) }
-    ensures more { OnErr result (Extends out.old.items out.new.items) }
+    ensures more { OnErr result (IsAppendedTo out.old.items out.new.items) }
 {
     out.push(b' ')?;
     out.extend_from_slice(word)
@@ -67,7 +67,7 @@ fn append_word(word: &[u8], out: &mut Vec<u8>) -> Result<(), AllocError>
 /// Appends a space and the number.
 fn append_number(number: u64, out: &mut Vec<u8>) -> Result<(), AllocError>
     ensures written { OnOk result (out.new.items ≡ out.old.items ++ 32 ∷ decimal number) }
-    ensures more { OnErr result (Extends out.old.items out.new.items) }
+    ensures more { OnErr result (IsAppendedTo out.old.items out.new.items) }
 {
     let mut buffer = Buffer::new();
     append_word(buffer.format(number).as_bytes(), out)
@@ -76,7 +76,7 @@ fn append_number(number: u64, out: &mut Vec<u8>) -> Result<(), AllocError>
 /// The line of a handle: the number of its slot and its generation, with a point between them.
 fn append_prepared(handle: Handle, out: &mut Vec<u8>) -> Result<(), AllocError>
     ensures written { OnOk result (out.new.items ≡ out.old.items ++ prepared_text handle) }
-    ensures more { OnErr result (Extends out.old.items out.new.items) }
+    ensures more { OnErr result (IsAppendedTo out.old.items out.new.items) }
 {
     out.extend_from_slice(b"prepared")?;
     append_number(handle.slot as u64, out)?;
@@ -90,7 +90,7 @@ fn append_prepared(handle: Handle, out: &mut Vec<u8>) -> Result<(), AllocError>
 /// A line for each key, and one with their number.
 fn append_answers(keys: &[Key], out: &mut Vec<u8>) -> Result<(), AllocError>
     ensures written { OnOk result (out.new.items ≡ out.old.items ++ answers_text keys.now) }
-    ensures more { OnErr result (Extends out.old.items out.new.items) }
+    ensures more { OnErr result (IsAppendedTo out.old.items out.new.items) }
 {
     append_keys(keys, out)?;
     append_end(keys.len() as u64, out)
@@ -98,8 +98,8 @@ fn append_answers(keys: &[Key], out: &mut Vec<u8>) -> Result<(), AllocError>
 
 /// The line that ends a reply: the number of lines before it.
 fn append_end(count: u64, out: &mut Vec<u8>) -> Result<(), AllocError>
-    ensures written { OnOk result (out.new.items ≡ out.old.items ++ end_line count) }
-    ensures more { OnErr result (Extends out.old.items out.new.items) }
+    ensures written { OnOk result (out.new.items ≡ out.old.items ++ end_count_line count) }
+    ensures more { OnErr result (IsAppendedTo out.old.items out.new.items) }
 {
     out.extend_from_slice(b"end")?;
     append_number(count, out)?;
@@ -111,7 +111,7 @@ fn append_end(count: u64, out: &mut Vec<u8>) -> Result<(), AllocError>
 #[tactic(auto, using(crate::proofs::ExtendingRules::extends_further))]
 fn append_keys(keys: &[Key], out: &mut Vec<u8>) -> Result<(), AllocError>
     ensures written { OnOk result (out.new.items ≡ out.old.items ++ flat_map key_line keys.now) }
-    ensures more { OnErr result (Extends out.old.items out.new.items) }
+    ensures more { OnErr result (IsAppendedTo out.old.items out.new.items) }
 {
     for key in keys {
         append_key(key, out)?;
@@ -122,7 +122,7 @@ fn append_keys(keys: &[Key], out: &mut Vec<u8>) -> Result<(), AllocError>
 /// The line of a key: `answer`, and each name behind a space.
 fn append_key(key: &Key, out: &mut Vec<u8>) -> Result<(), AllocError>
     ensures written { OnOk result (out.new.items ≡ out.old.items ++ key_line key.now) }
-    ensures more { OnErr result (Extends out.old.items out.new.items) }
+    ensures more { OnErr result (IsAppendedTo out.old.items out.new.items) }
 {
     out.extend_from_slice(b"answer")?;
     for name in key.items() {
@@ -135,7 +135,7 @@ fn append_key(key: &Key, out: &mut Vec<u8>) -> Result<(), AllocError>
 /// The lines of tables, and one with their number.
 fn append_table(lines: &[TableLine], out: &mut Vec<u8>) -> Result<(), AllocError>
     ensures written { OnOk result (out.new.items ≡ out.old.items ++ table_text lines.now) }
-    ensures more { OnErr result (Extends out.old.items out.new.items) }
+    ensures more { OnErr result (IsAppendedTo out.old.items out.new.items) }
 {
     append_lines(lines, out)?;
     append_end(lines.len() as u64, out)
@@ -145,7 +145,7 @@ fn append_table(lines: &[TableLine], out: &mut Vec<u8>) -> Result<(), AllocError
 #[tactic(auto, using(crate::proofs::ExtendingRules::extends_further))]
 fn append_lines(lines: &[TableLine], out: &mut Vec<u8>) -> Result<(), AllocError>
     ensures written { OnOk result (out.new.items ≡ out.old.items ++ flat_map ended_line lines.now) }
-    ensures more { OnErr result (Extends out.old.items out.new.items) }
+    ensures more { OnErr result (IsAppendedTo out.old.items out.new.items) }
 {
     for line in lines {
         append_line(line, out)?;
@@ -156,7 +156,7 @@ fn append_lines(lines: &[TableLine], out: &mut Vec<u8>) -> Result<(), AllocError
 /// A line of tables, with its end.
 fn append_line(line: &TableLine, out: &mut Vec<u8>) -> Result<(), AllocError>
     ensures written { OnOk result (out.new.items ≡ out.old.items ++ ended_line line.now) }
-    ensures more { OnErr result (Extends out.old.items out.new.items) }
+    ensures more { OnErr result (IsAppendedTo out.old.items out.new.items) }
 {
     out.extend_from_slice(line.text())?;
     out.push(b'\n')?;
@@ -166,7 +166,7 @@ fn append_line(line: &TableLine, out: &mut Vec<u8>) -> Result<(), AllocError>
 /// The line of a clash.
 fn append_clash(clash: &Clash, out: &mut Vec<u8>) -> Result<(), AllocError>
     ensures written { OnOk result (out.new.items ≡ out.old.items ++ clash_text clash.now) }
-    ensures more { OnErr result (Extends out.old.items out.new.items) }
+    ensures more { OnErr result (IsAppendedTo out.old.items out.new.items) }
 {
     out.extend_from_slice(b"inconsistent")?;
     append_number(clash.inclusion as u64, out)?;
@@ -179,7 +179,7 @@ fn append_clash(clash: &Clash, out: &mut Vec<u8>) -> Result<(), AllocError>
 /// `via` and each role behind a space, where there is one.
 fn append_path(path: &[NamedRole], out: &mut Vec<u8>) -> Result<(), AllocError>
     ensures written { OnOk result (out.new.items ≡ out.old.items ++ behind_spaces (path_words path.now)) }
-    ensures more { OnErr result (Extends out.old.items out.new.items) }
+    ensures more { OnErr result (IsAppendedTo out.old.items out.new.items) }
 {
     if path.is_empty() {
         return Ok(());
@@ -192,7 +192,7 @@ fn append_path(path: &[NamedRole], out: &mut Vec<u8>) -> Result<(), AllocError>
 #[tactic(auto, using(crate::proofs::ExtendingRules::extends_further))]
 fn append_roles(roles: &[NamedRole], out: &mut Vec<u8>) -> Result<(), AllocError>
     ensures written { OnOk result (out.new.items ≡ out.old.items ++ behind_spaces (map role_text roles.now)) }
-    ensures more { OnErr result (Extends out.old.items out.new.items) }
+    ensures more { OnErr result (IsAppendedTo out.old.items out.new.items) }
 {
     for role in roles {
         append_role(role, out)?;
@@ -203,7 +203,7 @@ fn append_roles(roles: &[NamedRole], out: &mut Vec<u8>) -> Result<(), AllocError
 /// A space and the role.
 fn append_role(role: &NamedRole, out: &mut Vec<u8>) -> Result<(), AllocError>
     ensures written { OnOk result (out.new.items ≡ out.old.items ++ 32 ∷ role_text role.now) }
-    ensures more { OnErr result (Extends out.old.items out.new.items) }
+    ensures more { OnErr result (IsAppendedTo out.old.items out.new.items) }
 {
     if !role.inverse {
         return append_word(role.name.bytes(), out);
@@ -217,7 +217,7 @@ fn append_role(role: &NamedRole, out: &mut Vec<u8>) -> Result<(), AllocError>
 /// The line of a refusal.
 fn append_error(refusal: &Refusal, out: &mut Vec<u8>) -> Result<(), AllocError>
     ensures written { OnOk result (out.new.items ≡ out.old.items ++ error_text refusal.now) }
-    ensures more { OnErr result (Extends out.old.items out.new.items) }
+    ensures more { OnErr result (IsAppendedTo out.old.items out.new.items) }
 {
     out.extend_from_slice(b"error")?;
     append_number(error_number(refusal), out)?;
@@ -253,7 +253,7 @@ fn error_number(refusal: &Refusal) -> u64
 /// What stands behind the number of a refusal, each word behind a space.
 fn append_error_words(refusal: &Refusal, out: &mut Vec<u8>) -> Result<(), AllocError>
     ensures written { OnOk result (out.new.items ≡ out.old.items ++ behind_spaces (error_words refusal.now)) }
-    ensures more { OnErr result (Extends out.old.items out.new.items) }
+    ensures more { OnErr result (IsAppendedTo out.old.items out.new.items) }
 {
     match refusal {
         Refusal::Syntax(number) | Refusal::Dropped(number) => append_number(*number, out),
@@ -282,7 +282,7 @@ fn append_error_words(refusal: &Refusal, out: &mut Vec<u8>) -> Result<(), AllocE
 /// The line of a block that offends and why, each behind a space.
 fn append_block_error(error: &BlockError, out: &mut Vec<u8>) -> Result<(), AllocError>
     ensures written { OnOk result (out.new.items ≡ out.old.items ++ behind_spaces (decimal error.now.line ∷ cause_word error.now.cause ∷ [])) }
-    ensures more { OnErr result (Extends out.old.items out.new.items) }
+    ensures more { OnErr result (IsAppendedTo out.old.items out.new.items) }
 {
     append_number(error.line, out)?;
     match error.cause {

@@ -13,7 +13,7 @@ use Rattle.dl_base.specs.declared.element.Elem.{Elem}
 use Rattle.dl_base.proofs.ElemLemmas.{elem_total, elem_same, upto_trans}
 use Rattle.dl_base.proofs.ClashLemmas.{tied}
 use Rattle.table_report.specs.TableLines.{Entry}
-use Rattle.table_report.specs.Gathered.{AddsAll, IsReached, IsUpTo, entry_of}
+use Rattle.table_report.specs.Gathered.{AddsAll, IsOfGoneOver, IsGoneOver, entry_of}
 use Rattle.table_report.specs.declared.entry.EntryRef.{EntryRef}
 
 pub adds_none : (P : Entry → Type 0) (xs : List EntryRef) → ((x : Entry) → P x → ⊥) → AddsAll P xs xs
@@ -62,7 +62,7 @@ adds_found xs ys found y is list = subst (λ (z : Option EntryRef × List EntryR
 
 -- ---- going through elements in their order
 
-upto_or_above : (last : Option Elem) (e : Elem) → IsUpTo last e ⊎ IsAbove last e
+upto_or_above : (last : Option Elem) (e : Elem) → IsGoneOver last e ⊎ IsAbove last e
 upto_or_above None e = inr tt
 upto_or_above (Some l) e = by (elem_cmp l e) refl
   where
@@ -71,32 +71,32 @@ upto_or_above (Some l) e = by (elem_cmp l e) refl
     by Equal is = inl (λ greater. let back : elem_cmp e l ≡ ordering_reverse Equal = elem_total.antisymm e l ∙ ap ordering_reverse is in cc)
     by Greater is = inl (λ greater. let back : elem_cmp e l ≡ ordering_reverse Greater = elem_total.antisymm e l ∙ ap ordering_reverse is in cc)
 
-upto_more : (last : Option Elem) (m e : Elem) → IsUpTo last m → IsAbove last e → elem_cmp m e ≢ Greater
+upto_more : (last : Option Elem) (m e : Elem) → IsGoneOver last m → IsAbove last e → elem_cmp m e ≢ Greater
 upto_more None m e upto above = absurd upto
 upto_more (Some l) m e upto above = upto_trans m l e upto (λ greater. cc)
 
 module _ (P : Elem → Type 0) (F : Elem → Entry → Type 0) where
-  pub reached_none : (xs : List EntryRef) → AddsAll (IsReached P F None) xs xs
-  reached_none xs = adds_none (IsReached P F None) xs (λ x r. r.upto)
+  pub reached_none : (xs : List EntryRef) → AddsAll (IsOfGoneOver P F None) xs xs
+  reached_none xs = adds_none (IsOfGoneOver P F None) xs (λ x r. r.upto)
 
   module _ (last : Option Elem) (e : Elem) (least : IsLeastAbove P last (Some e)) where
-    into_more : (x : Entry) → IsReached P F last x ⊎ F e x → IsReached P F (Some e) x
+    into_more : (x : Entry) → IsOfGoneOver P F last x ⊎ F e x → IsOfGoneOver P F (Some e) x
     into_more x (inl r) = record { element = r.element; one = r.one; upto = upto_more last r.element e r.upto least.1; given = r.given }
     into_more x (inr given) = record { element = e; one = least.0; upto = λ greater. let self : elem_cmp e e ≡ Equal = tied_itself elem_total e in cc; given = given }
 
-    from_more : (x : Entry) → IsReached P F (Some e) x → IsReached P F last x ⊎ F e x
+    from_more : (x : Entry) → IsOfGoneOver P F (Some e) x → IsOfGoneOver P F last x ⊎ F e x
     from_more x r = elim (upto_or_above last r.element) [
       | inl upto ↦ inl (record { element = r.element; one = r.one; upto = upto; given = r.given })
       | inr above ↦ inr (subst (λ (m : Elem). F m x) (elem_same r.element e (tied elem_cmp elem_total r.element e r.upto (least.2 r.element r.one above))) r.given)
     ]
 
     -- one more element
-    pub reached_more : (xs ys zs : List EntryRef) → AddsAll (IsReached P F last) xs ys → AddsAll (F e) ys zs → AddsAll (IsReached P F (Some e)) xs zs
-    reached_more xs ys zs first second = adds_as (λ x. IsReached P F last x ⊎ F e x) (IsReached P F (Some e)) xs zs (λ x. (into_more x, from_more x)) (adds_then (IsReached P F last) (F e) xs ys zs first second)
+    pub reached_more : (xs ys zs : List EntryRef) → AddsAll (IsOfGoneOver P F last) xs ys → AddsAll (F e) ys zs → AddsAll (IsOfGoneOver P F (Some e)) xs zs
+    reached_more xs ys zs first second = adds_as (λ x. IsOfGoneOver P F last x ⊎ F e x) (IsOfGoneOver P F (Some e)) xs zs (λ x. (into_more x, from_more x)) (adds_then (IsOfGoneOver P F last) (F e) xs ys zs first second)
 
   -- where none is left, all were gone through
-  pub reached_all : (last : Option Elem) (xs ys : List EntryRef) → IsLeastAbove P last None → AddsAll (IsReached P F last) xs ys → AddsAll (λ x. (e : Elem) × P e × F e x) xs ys
-  reached_all last xs ys none adds = adds_as (IsReached P F last) (λ x. (e : Elem) × P e × F e x) xs ys (λ x. (
+  pub reached_all : (last : Option Elem) (xs ys : List EntryRef) → IsLeastAbove P last None → AddsAll (IsOfGoneOver P F last) xs ys → AddsAll (λ x. (e : Elem) × P e × F e x) xs ys
+  reached_all last xs ys none adds = adds_as (IsOfGoneOver P F last) (λ x. (e : Elem) × P e × F e x) xs ys (λ x. (
     λ r. (r.element, r.one, r.given),
     λ found. record {
       element = found.0;

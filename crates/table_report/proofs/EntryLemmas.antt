@@ -15,7 +15,7 @@ use Rattle.dl_base.proofs.RowLemmas.{ends_of_row}
 use Rattle.completion.specs.Completed.{Completion}
 use Rattle.completion.specs.Named.{IsNamedCompletion}
 use Rattle.witness_book.specs.Witnesses.{generation_of}
-use Rattle.table_report.specs.TableLines.{Member, NamedIndividual, WitnessBy, Entry, WitnessEntry, ConceptEntry, RoleEntry, named_role, node_member, IsLiveAt, IsInConcept, AreLinked, HoldsEntry, entry_cmp, entry_text, AreTableLines}
+use Rattle.table_report.specs.TableLines.{Member, NamedIndividual, WitnessBy, Entry, WitnessEntry, ConceptEntry, RoleEntry, role_by_name, node_member, IsLiveAt, IsInConcept, AreLinked, HoldsEntry, entry_cmp, entry_text, AreTableLines}
 use Rattle.table_report.specs.Gathered.{both, elem_member, row_entry, witness_entry, IsOfLive, IsOfConcept, IsOfRole, IsGathered, entry_of}
 use Rattle.table_report.specs.declared.entry.EntryRef.{EntryRef}
 use Rattle.table_report.proofs.LookupLemmas.{mapped, both_parts}
@@ -29,7 +29,7 @@ module _ (o : Terminology) (names : List (List ℕ)) (rows : List NamedRow) (c :
   same_member (elem.Named k) (Individual a) is = ap (option_map NamedIndividual) is
   same_member (elem.Named k) (WitnessOf r) is = absurd is
   same_member (elem.Shared w) (Individual a) is = absurd is
-  same_member (elem.Shared w) (WitnessOf r) is = ap (λ (s : Role). option_map WitnessBy (named_role o s)) is.0
+  same_member (elem.Shared w) (WitnessOf r) is = ap (λ (s : Role). option_map WitnessBy (role_by_name o s)) is.0
 
   -- nodes have elements
   abbrev HasElem : Node → Type 0
@@ -60,7 +60,7 @@ module _ (o : Terminology) (names : List (List ℕ)) (rows : List NamedRow) (c :
 
   live_holds : (r : Role) (x : Entry) → IsOfLive o c.book r x → HoldsEntry o rows generation x
   live_holds r x (live, is) =
-      let named = mapped (λ n. WitnessEntry n (generation r)) (named_role o r) x is in
+      let named = mapped (λ n. WitnessEntry n (generation r)) (role_by_name o r) x is in
       subst (HoldsEntry o rows generation) (sym named.2) (record { role = r; name = named.1; live = (are.live r).0 live; generation_is = refl })
 
   concept_holds : (k : ℕ) (x : Entry) → IsOfConcept o names c.rows k x → HoldsEntry o rows generation x

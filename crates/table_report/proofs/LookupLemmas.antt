@@ -7,7 +7,7 @@ use Rattle.dl_base.specs.Tables.{TableRow}
 use Rattle.dl_base.specs.declared.concept.Role.{Role}
 use Rattle.dl_base.proofs.SetLemmas.{role_place-same}
 use Rattle.witness_book.specs.Witnesses.{Witnesses, generation_of}
-use Rattle.table_report.specs.TableLines.{Member, Entry, WitnessEntry, ConceptEntry, RoleEntry, named_role}
+use Rattle.table_report.specs.TableLines.{Member, Entry, WitnessEntry, ConceptEntry, RoleEntry, role_by_name}
 use Rattle.table_report.specs.Gathered.{both, elem_member, IsOfLive, IsOfConcept, IsOfRole}
 
 -- what a map gives is given from something
@@ -46,7 +46,7 @@ place_entries o book place r found x at each = (
 
 pub place_within : (o : Terminology) (book : Witnesses) (place : ℕ) (x : Entry) → IsAtPlace o book place x → place < 2 * length o.roles
 place_within o book place x (r, at, (live, is)) =
-    let named = mapped (λ n. WitnessEntry n (generation_of book r)) (named_role o r) x is in
+    let named = mapped (λ n. WitnessEntry n (generation_of book r)) (role_by_name o r) x is in
     let name = mapped (λ (name : List ℕ). record { name = name; inverse = r.inverse }) (slice_get o.roles r.name) named.0 named.1 in
     let within : r.name < length o.roles = slice_get_within o.roles r.name name.0 name.1 in
     below r.inverse at within

@@ -13,7 +13,7 @@ use Rattle.dl_base.proofs.PlaceLemmas.{map_contains, map_from}
 use Rattle.dl_base.specs.Clashes.{inverse_cmp}
 use Rattle.dl_base.specs.Rows.{name_cmp}
 use Rattle.table_report.specs.TableLines.{Entry, named_role_cmp, member_cmp, entry_cmp}
-use Rattle.table_report.specs.Gathered.{role_of, member_of, entry_of}
+use Rattle.table_report.specs.Gathered.{role_read, member_of, entry_of}
 use Rattle.table_report.proofs.OrderLemmas.{entry_same}
 use Rattle.table_report.specs.contracts.entry.RoleRefOrd.TheImpl.{cmp-value as role_order}
 use Rattle.table_report.specs.contracts.entry.MemberRefOrd.TheImpl.{cmp-value as member_order}
@@ -69,7 +69,7 @@ module _ (cmp : EntryRef → EntryRef → Ordering) (total : IsTotalOrder cmp) (
 
 -- ---- the order that is derived for them
 
-role_order_is : (r s : RoleRef) → role_order.it r s ≡ named_role_cmp (role_of r) (role_of s)
+role_order_is : (r s : RoleRef) → role_order.it r s ≡ named_role_cmp (role_read r) (role_read s)
 role_order_is r s = by r.inverse s.inverse
   where
     by : (b d : Bool) → role_order.it (record { name = r.name; inverse = b }) (record { name = s.name; inverse = d }) ≡ ordering_then (name_cmp r.name.now s.name.now) (inverse_cmp b d)

@@ -26,7 +26,7 @@ use Rattle.dl_base.proofs.RisingLemmas.{contains_cases, all_contains}
 use Rattle.dl_base.proofs.SmallOntologies.{among, derived_among, respects}
 use Rattle.reply_text.specs.ReplyText.{behind_spaces}
 use Rattle.table_report.specs.Laws.{LinesOfSuccessor, LinesBothWays, both_ways}
-use Rattle.table_report.specs.TableLines.{Member, NamedIndividual, WitnessBy, Entry, WitnessEntry, ConceptEntry, RoleEntry, entry_cmp, named_role, node_member, IsLiveAt, IsInConcept, AreLinked, HoldsEntry}
+use Rattle.table_report.specs.TableLines.{Member, NamedIndividual, WitnessBy, Entry, WitnessEntry, ConceptEntry, RoleEntry, entry_cmp, role_by_name, node_member, IsLiveAt, IsInConcept, AreLinked, HoldsEntry}
 
 -- ---- what the rows say
 
@@ -121,10 +121,10 @@ module _ (inclusions : List Inclusion) (bs : List Basic) (closed : list_all (res
   pub live_is : (s : NamedRole) (g : ℕ) → IsLiveAt (with_inclusions inclusions) only_a ones s g → (inverse : Bool) × (s ≡ named_r inverse) × (g ≡ 1) × Contains bs (basic.Exists (role_r inverse))
   live_is s g h = by h.role h.name (only_live h.role h.live)
     where
-      by : (t : Role) → named_role (with_inclusions inclusions) t ≡ Some s → Contains bs (basic.Exists t) → (inverse : Bool) × (s ≡ named_r inverse) × (g ≡ 1) × Contains bs (basic.Exists (role_r inverse))
+      by : (t : Role) → role_by_name (with_inclusions inclusions) t ≡ Some s → Contains bs (basic.Exists t) → (inverse : Bool) × (s ≡ named_r inverse) × (g ≡ 1) × Contains bs (basic.Exists (role_r inverse))
       by t name there = at t.name t.inverse name there
         where
-          at : (k : ℕ) (inverse : Bool) → named_role (with_inclusions inclusions) (record { name = k; inverse = inverse }) ≡ Some s → Contains bs (basic.Exists (record { name = k; inverse = inverse }))
+          at : (k : ℕ) (inverse : Bool) → role_by_name (with_inclusions inclusions) (record { name = k; inverse = inverse }) ≡ Some s → Contains bs (basic.Exists (record { name = k; inverse = inverse }))
               → (inverse : Bool) × (s ≡ named_r inverse) × (g ≡ 1) × Contains bs (basic.Exists (role_r inverse))
           at zero inverse name there = (inverse, sym (some_same name), h.generation_is, there)
           at (suc k) inverse name there = absurd cc

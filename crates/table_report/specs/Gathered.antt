@@ -9,7 +9,7 @@ use Rattle.dl_base.specs.declared.concept.Role.{Role}
 use Rattle.dl_base.specs.declared.element.Elem.{Elem}
 use Rattle.dl_base.specs.declared.element.Elem.TheVariants as elem
 use Rattle.witness_book.specs.Witnesses.{Witnesses, generation_of}
-use Rattle.table_report.specs.TableLines.{Member, NamedIndividual, WitnessBy, Entry, WitnessEntry, ConceptEntry, RoleEntry, named_role}
+use Rattle.table_report.specs.TableLines.{Member, NamedIndividual, WitnessBy, Entry, WitnessEntry, ConceptEntry, RoleEntry, role_by_name}
 use Rattle.table_report.specs.declared.entry.RoleRef.{RoleRef}
 use Rattle.table_report.specs.declared.entry.MemberRef.{MemberRef}
 use Rattle.table_report.specs.declared.entry.MemberRef.TheVariants as member
@@ -17,15 +17,15 @@ use Rattle.table_report.specs.declared.entry.EntryRef.{EntryRef}
 use Rattle.table_report.specs.declared.entry.EntryRef.TheVariants as entry
 
 -- what is borrowed as it is read
-abbrev pub role_of : RoleRef → NamedRole
-role_of r = record { name = r.name.now; inverse = r.inverse }
+abbrev pub role_read : RoleRef → NamedRole
+role_read r = record { name = r.name.now; inverse = r.inverse }
 
 abbrev pub member_of : MemberRef → Member
 member_of (member.Individual name) = NamedIndividual name.now
-member_of (member.Witness r) = WitnessBy (role_of r)
+member_of (member.Witness r) = WitnessBy (role_read r)
 
 abbrev pub entry_of : EntryRef → Entry
-entry_of (entry.Witness r generation) = WitnessEntry (role_of r) generation
+entry_of (entry.Witness r generation) = WitnessEntry (role_read r) generation
 entry_of (entry.Concept c m) = ConceptEntry c.now (member_of m)
 entry_of (entry.Role p x y) = RoleEntry p.now (member_of x) (member_of y)
 
@@ -38,7 +38,7 @@ both f (Some a) (Some b) = Some (f a b)
 -- the individual that has the number in the list of names, or the witness by its role's name
 abbrev pub elem_member : Terminology → List (List ℕ) → Elem → Option Member
 elem_member o names (elem.Named n) = option_map NamedIndividual (slice_get names n)
-elem_member o names (elem.Shared w) = option_map WitnessBy (named_role o w.role)
+elem_member o names (elem.Shared w) = option_map WitnessBy (role_by_name o w.role)
 
 -- the entry of a row, where its numbers stand for names
 abbrev pub row_entry : Terminology → List (List ℕ) → TableRow → Option Entry
@@ -47,7 +47,7 @@ row_entry o names (RoleRow p e f) = both (λ (role : List ℕ) (ends : Member ×
 
 -- the entry of the role's witness, where the ontology has the role's name
 abbrev pub witness_entry : Terminology → Witnesses → Role → Option Entry
-witness_entry o book r = option_map (λ named. WitnessEntry named (generation_of book r)) (named_role o r)
+witness_entry o book r = option_map (λ named. WitnessEntry named (generation_of book r)) (role_by_name o r)
 
 -- the entry is that of a live role
 abbrev pub IsOfLive : Terminology → Witnesses → Role → Entry → Type 0
@@ -72,13 +72,13 @@ pub record AddsAll (these : Entry → Type 0) (old new : List EntryRef) : Type 0
   pub each : (x : Entry) → Contains (map entry_of new) x ↔ (these x ⊎ Contains (map entry_of old) x)
 
 -- the element isn't above that one; nothing is up to none
-abbrev pub IsUpTo : Option Elem → Elem → Type 0
-IsUpTo None e = ⊥
-IsUpTo (Some last) e = elem_cmp e last ≢ Greater
+abbrev pub IsGoneOver : Option Elem → Elem → Type 0
+IsGoneOver None e = ⊥
+IsGoneOver (Some last) e = elem_cmp e last ≢ Greater
 
 -- the entry is of an element up to that one
-pub record IsReached (elements : Elem → Type 0) (gives : Elem → Entry → Type 0) (last : Option Elem) (x : Entry) : Type 0 where
+pub record IsOfGoneOver (elements : Elem → Type 0) (gives : Elem → Entry → Type 0) (last : Option Elem) (x : Entry) : Type 0 where
   pub element : Elem
   pub one : elements element
-  pub upto : IsUpTo last element
+  pub upto : IsGoneOver last element
   pub given : gives element x

@@ -54,18 +54,18 @@ entry_cmp (RoleEntry p x y) (RoleEntry q n k) = ordering_then (name_cmp p q) (or
 -- ---- the entries of a base
 
 -- the role by its name, where the ontology has it
-abbrev pub named_role : Terminology → Role → Option NamedRole
-named_role o r = option_map (λ name. record { name = name; inverse = r.inverse }) (slice_get o.roles r.name)
+abbrev pub role_by_name : Terminology → Role → Option NamedRole
+role_by_name o r = option_map (λ name. record { name = name; inverse = r.inverse }) (slice_get o.roles r.name)
 
 -- an individual, or a witness by the name of its role
 abbrev pub node_member : Terminology → Node → Option Member
 node_member o (Individual a) = Some (NamedIndividual a)
-node_member o (WitnessOf r) = option_map WitnessBy (named_role o r)
+node_member o (WitnessOf r) = option_map WitnessBy (role_by_name o r)
 
 -- the role of this name is live, in this generation
 pub record IsLiveAt (o : Terminology) (rows : List NamedRow) (generation : Role → ℕ) (named : NamedRole) (g : ℕ) : Type 0 where
   pub role : Role
-  pub name : named_role o role ≡ Some named
+  pub name : role_by_name o role ≡ Some named
   pub live : IsLive o rows role
   pub generation_is : g ≡ generation role
 

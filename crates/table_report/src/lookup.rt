@@ -2,8 +2,8 @@
 ghost use Rattle.std.specs.Prelude.{◌≡◌, ◌↔◌, Some, slice_get, option_map};
 ghost use Rattle.std.specs.Option.{option_copied};
 ghost use Rattle.dl_base.specs.Tables.{ConceptRow, RoleRow};
-ghost use Rattle.table_report.specs.Gathered.{IsOfLive, elem_member, entry_of, member_of, role_of, row_entry};
-ghost use Rattle.table_report.specs.TableLines.{Entry, named_role};
+ghost use Rattle.table_report.specs.Gathered.{IsOfLive, elem_member, entry_of, member_of, role_read, row_entry};
+ghost use Rattle.table_report.specs.TableLines.{Entry, role_by_name};
 
 use crate::entry::{EntryRef, MemberRef, RoleRef};
 use dl_base::{Elem, Name, NameBook, Ontology, Role};
@@ -22,7 +22,7 @@ fn name_at(book: &NameBook, id: u32) -> Option<&Name>
 
 /// The role by its name, where the ontology has it.
 fn role_ref(ontology: &Ontology, role: Role) -> Option<RoleRef<'_>>
-    ensures { option_map role_of result ≡ named_role ontology.now role }
+    ensures { option_map role_read result ≡ role_by_name ontology.now role }
 {
     let name = name_at(ontology.roles(), role.name)?;
     Some(RoleRef {

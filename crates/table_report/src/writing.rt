@@ -2,7 +2,7 @@
 ghost use Rattle.std.specs.Prelude.{◌≡◌, ◌++◌, ◌∷◌, IfOk, OnOk, map, true, false};
 ghost use Rattle.std.specs.Fmt.{decimal};
 ghost use Rattle.reply_text.specs.ReplyText.{role_text};
-ghost use Rattle.table_report.specs.Gathered.{entry_of, member_of, role_of};
+ghost use Rattle.table_report.specs.Gathered.{entry_of, member_of, role_read};
 ghost use Rattle.table_report.specs.TableLines.{WitnessEntry, entry_text, member_text};
 
 use crate::entry::{EntryRef, MemberRef, RoleRef};
@@ -53,7 +53,7 @@ fn append_entry(entry: &EntryRef<'_>, out: &mut Vec<u8>) -> Result<(), AllocErro
 
 /// Appends what is said of a live role.
 fn append_witness(role: &RoleRef<'_>, generation: u64, out: &mut Vec<u8>) -> Result<(), AllocError>
-    ensures { OnOk result (out.new.items ≡ out.old.items ++ entry_text (WitnessEntry (role_of role.now) generation)) }
+    ensures { OnOk result (out.new.items ≡ out.old.items ++ entry_text (WitnessEntry (role_read role.now) generation)) }
 {
     out.extend_from_slice(b"witness ")?;
     append_role(role, out)?;
@@ -80,7 +80,7 @@ fn append_member(member: &MemberRef<'_>, out: &mut Vec<u8>) -> Result<(), AllocE
 
 /// Appends the role: its name, or `Inv(name)`.
 fn append_role(role: &RoleRef<'_>, out: &mut Vec<u8>) -> Result<(), AllocError>
-    ensures { OnOk result (out.new.items ≡ out.old.items ++ role_text (role_of role.now)) }
+    ensures { OnOk result (out.new.items ≡ out.old.items ++ role_text (role_read role.now)) }
 {
     if !role.inverse {
         return out.extend_from_slice(role.name.bytes());

@@ -11,7 +11,7 @@ use Rattle.dl_base.specs.declared.row.NamedRow.{NamedRow}
 use Rattle.query_shape.specs.Shape.{Layout, IsLayout, IsShapeMatch, IsBelow}
 use Rattle.query_shape.specs.Lifting.{LiftsShape}
 use Rattle.query_shape.specs.Lifting.{DecidesLifting}
-use Rattle.query_shape.specs.TreeWitness.{Passes}
+use Rattle.query_shape.specs.TreeWitness.{PassesTrees}
 use Rattle.query_shape.specs.declared.layout.ShapeAtom.{ShapeAtom}
 use Rattle.match_filter.specs.Links.{IsLink}
 use Rattle.match_filter.proofs.Sufficiency.{link_within, makes_placing}
@@ -39,14 +39,14 @@ module _ (s : Layout) (images : List Elem) (layout : IsLayout s) (count : length
   below_24 k lt = let most = few in omega arith
 
   into : (o : Terminology) (rows : List NamedRow) (names : List (List ℕ)) (generation : Role → ℕ) (table : List TableRow) → AreCompleted o rows names generation table → IsShapeMatch table s images
-      → Passes s.atoms images → LiftsShape o rows names generation s images
+      → PassesTrees s.atoms images → LiftsShape o rows names generation s images
   into o rows names generation table completed is_match passes =
       makes_placing o rows names generation table completed images s.atoms below is_match.atoms (λ k lt. layout.used k (subst (λ (n : ℕ). k < n) count lt))
       (λ j k at_j at_k. decide_joined images s.atoms within_24 j k (below_24 j at_j) (below_24 k at_k))
       (passed_agree o rows names generation table completed images s.atoms is_match.atoms passes)
       (passed_grounded o rows names generation table completed images s.atoms is_match.atoms passes (length images) within) s refl count
 
-  back : (o : Terminology) (rows : List NamedRow) (names : List (List ℕ)) (generation : Role → ℕ) → AllPairs (λ x y. x ≢ y) names → LiftsShape o rows names generation s images → Passes s.atoms images
+  back : (o : Terminology) (rows : List NamedRow) (names : List (List ℕ)) (generation : Role → ℕ) → AllPairs (λ x y. x ≢ y) names → LiftsShape o rows names generation s images → PassesTrees s.atoms images
   back o rows names generation distinct l =
       placed_passes o rows names generation images s.atoms l.place below (λ k lt. l.short k (subst (λ (n : ℕ). k < n) count lt)) l.folds l.atoms distinct
 

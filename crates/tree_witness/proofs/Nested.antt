@@ -12,7 +12,7 @@ use Rattle.dl_base.specs.declared.row.NamedRow.{NamedRow}
 use Rattle.dl_base.proofs.RoleLemmas.{inverse_twice}
 use Rattle.dl_base.proofs.ShortLemmas.{node_once}
 use Rattle.query_shape.specs.Shape.{HoldsAt}
-use Rattle.query_shape.specs.TreeWitness.{IsOn, IsOriented, TreeWitness, top, first, back, further, Passes}
+use Rattle.query_shape.specs.TreeWitness.{IsOn, IsOriented, TreeWitness, top, first, back, further, PassesTrees}
 use Rattle.query_shape.specs.declared.layout.ShapeAtom.{ShapeAtom}
 use Rattle.query_shape.specs.declared.layout.ShapeAtom.TheVariants as shape
 use Rattle.query_shape.proofs.MatchList.{Decided}
@@ -92,7 +92,7 @@ module _ (o : Terminology) (rows : List NamedRow) (names : List (List ℕ)) (gen
   moved : (q : Role) (u s : ℕ) → slice_get images u ≡ slice_get images s → IsOn images q s → IsOn images q u
   moved q u s same (x, at, is) = (x, same ∙ at, is)
 
-  module _ (passes : Passes atoms images) where
+  module _ (passes : PassesTrees atoms images) where
     module _ (r : Role) (t : ℕ) (child : ℕ) (atom : IsOriented atoms r t child) (on : IsOn images r child) where
       tops : (p : Role) (m u : ℕ) → IsOriented atoms p m u → IsOn images p u → (s : ℕ) → TreeWitness atoms p m s [] → slice_get images s ≡ slice_get images m
       tops p m u has there s hangs = (passes p m u has there).1 s hangs

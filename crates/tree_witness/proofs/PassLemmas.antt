@@ -3,7 +3,7 @@ use Rattle.std.proofs.Common.{◌≡◌, List, [], get_or, Option, Some, None, s
 use Rattle.std.proofs.lemmas.List.Elements.{All-contains, Contains-get_or}
 use Rattle.dl_base.specs.declared.concept.Role.{Role}
 use Rattle.dl_base.specs.declared.element.Elem.{Elem}
-use Rattle.query_shape.specs.TreeWitness.{IsOn, TreeWitness, HasTreeWitness, TopsAgree, Passes}
+use Rattle.query_shape.specs.TreeWitness.{IsOn, TreeWitness, HasTreeWitness, TopsAgree, PassesTrees}
 use Rattle.dl_base.proofs.PlaceLemmas.{map_contains, map_from}
 use Rattle.query_shape.specs.declared.layout.ShapeAtom.{ShapeAtom}
 use Rattle.tree_witness.specs.Trees.{IsTreeWitnessOf, TopAgrees, PassesEntry, PassesBy}
@@ -35,7 +35,7 @@ module _ (images : List Elem) (atoms : List ShapeAtom) where
 pub passes_by_trees : PassesByTrees
 passes_by_trees s t images are = (into, back)
   where
-    into : PassesBy t images → Passes s.atoms images
+    into : PassesBy t images → PassesTrees s.atoms images
     into pass r m u atom on = by (map_from atom_in t.entries a (subst (λ (as' : List OrientedAtom). Contains as' a) (sym are.order) (oriented_there s.atoms r m u atom)))
       where
         a : OrientedAtom
@@ -46,7 +46,7 @@ passes_by_trees s t images are = (into, back)
             into_atom images s.atoms a e.tree (subst (λ (x : OrientedAtom). IsTreeWitnessOf s.atoms x e.tree) (sym is) (All-contains (λ (e : TreeEntry). IsTreeWitnessOf s.atoms e.atom e.tree) t.entries e are.trees there))
             (subst (λ (x : OrientedAtom). IsOn images x.role x.to → MatchOption e.tree ⊥ (All (TopAgrees images x.from))) (sym is) (All-contains (PassesEntry images) t.entries e pass there) on)
 
-    back : Passes s.atoms images → PassesBy t images
+    back : PassesTrees s.atoms images → PassesBy t images
     back pass k d lt on = at (get_or t.entries k d) (Contains-get_or t.entries k d lt) on
       where
         at : (e : TreeEntry) → Contains t.entries e → PassesEntry images e

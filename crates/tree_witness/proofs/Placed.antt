@@ -17,7 +17,7 @@ use Rattle.dl_base.proofs.RoleLemmas.{inverse_twice}
 use Rattle.dl_base.proofs.ShortLemmas.{elem_once}
 use Rattle.query_shape.specs.Shape.{IsBelow}
 use Rattle.query_shape.specs.Lifting.{HoldsOn}
-use Rattle.query_shape.specs.TreeWitness.{IsOn, IsOriented, TreeWitness, top, first, back, further, HasTreeWitness, TopsAgree, Passes}
+use Rattle.query_shape.specs.TreeWitness.{IsOn, IsOriented, TreeWitness, top, first, back, further, HasTreeWitness, TopsAgree, PassesTrees}
 use Rattle.query_shape.specs.declared.layout.ShapeAtom.{ShapeAtom}
 use Rattle.query_shape.specs.declared.layout.ShapeAtom.TheVariants as shape
 use Rattle.tree_witness.proofs.Turned.{oriented_below}
@@ -117,5 +117,5 @@ module _ (o : Terminology) (rows : List NamedRow) (names : List (List ℕ)) (gen
         (folds t (image t) at_t) in
         at_s ∙ (ap Some same ∙ sym at_t)
 
-  pub placed_passes : AllPairs (λ x y. x ≢ y) names → Passes atoms images
+  pub placed_passes : AllPairs (λ x y. x ≢ y) names → PassesTrees atoms images
   placed_passes distinct r t child atom on = (one_list r t child atom on, one_image r t child atom on distinct)

@@ -10,7 +10,7 @@ use Rattle.dl_base.specs.declared.element.Elem.{Elem}
 use Rattle.dl_base.specs.declared.row.NamedRow.{NamedRow}
 use Rattle.dl_base.proofs.RisingLemmas.{contains_cases}
 use Rattle.query_shape.specs.Shape.{HoldsAt}
-use Rattle.query_shape.specs.TreeWitness.{IsOn, IsOriented, TreeWitness, top, first, back, further, Passes}
+use Rattle.query_shape.specs.TreeWitness.{IsOn, IsOriented, TreeWitness, top, first, back, further, PassesTrees}
 use Rattle.query_shape.specs.declared.layout.ShapeAtom.{ShapeAtom}
 use Rattle.query_shape.specs.declared.layout.ShapeAtom.TheVariants as shape
 use Rattle.match_filter.specs.Links.{IsLinkOf, IsLink}
@@ -44,7 +44,7 @@ link_leads images atoms p c (a, there, l) = by a there l
     }
 
 module _ (o : Terminology) (rows : List NamedRow) (names : List (List ℕ)) (generation : Role → ℕ) (table : List TableRow) (completed : AreCompleted o rows names generation table)
-    (images : List Elem) (atoms : List ShapeAtom) (holds : (a : ShapeAtom) → Contains atoms a → HoldsAt table images a) (passes : Passes atoms images) where
+    (images : List Elem) (atoms : List ShapeAtom) (holds : (a : ShapeAtom) → Contains atoms a → HoldsAt table images a) (passes : PassesTrees atoms images) where
   abbrev Link : ℕ → ℕ → Type 0
   Link = IsLink images atoms
 

@@ -11,18 +11,18 @@ use Rattle.query_shape.specs.Shape.{Layout, IsLayout, IsShapeMatch}
 use Rattle.query_shape.specs.Lifting.{LiftsShape}
 use Rattle.query_shape.specs.declared.layout.ShapeAtom.{ShapeAtom}
 use Rattle.query_shape.specs.declared.layout.ShapeAtom.TheVariants as shape
-use Rattle.query_shape.specs.TreeWitness.{TreeWitness, HasTreeWitness, Passes}
+use Rattle.query_shape.specs.TreeWitness.{TreeWitness, HasTreeWitness, PassesTrees}
 use Rattle.tree_witness.specs.Trees.{Trees, AreTreesOf, PassesBy}
 
 -- a match of completed tables whose individuals have distinct names passes exactly where it lifts
 abbrev pub LiftsWherePassed : Type 0
 LiftsWherePassed = (o : Terminology) (rows : List NamedRow) (names : List (List ℕ)) (generation : Role → ℕ) (table : List TableRow) (s : Layout) (images : List Elem)
     → AllPairs (λ x y. x ≢ y) names → AreCompleted o rows names generation table → IsLayout s → IsShapeMatch table s images
-    → Passes s.atoms images ↔ LiftsShape o rows names generation s images
+    → PassesTrees s.atoms images ↔ LiftsShape o rows names generation s images
 
 -- images pass by the trees of a shape exactly where they pass
 abbrev pub PassesByTrees : Type 0
-PassesByTrees = (s : Layout) (t : Trees) (images : List Elem) → AreTreesOf s t → PassesBy t images ↔ Passes s.atoms images
+PassesByTrees = (s : Layout) (t : Trees) (images : List Elem) → AreTreesOf s t → PassesBy t images ↔ PassesTrees s.atoms images
 
 -- ---- small ones
 
@@ -54,12 +54,12 @@ around r last = elem.Named 0 ∷ elem.Shared (record { role = r; generation = 1 
 
 -- two individuals that share the witness of r don't pass as parents of one term by r
 abbrev pub SharedIsNoJoin : Type 0
-SharedIsNoJoin = Passes two_parents (around role_r 1) → ⊥
+SharedIsNoJoin = PassesTrees two_parents (around role_r 1) → ⊥
 
 -- one individual passes as both parents
 abbrev pub OneIsBoth : Type 0
-OneIsBoth = Passes two_parents (around role_r 0)
+OneIsBoth = PassesTrees two_parents (around role_r 0)
 
 -- two pass where the witness is one of s
 abbrev pub OffTheWitness : Type 0
-OffTheWitness = Passes two_parents (around role_s 1)
+OffTheWitness = PassesTrees two_parents (around role_s 1)

@@ -15,7 +15,7 @@ use Rattle.dl_base.specs.declared.concept.Inclusion.{Inclusion}
 use Rattle.dl_base.proofs.OntologyLemmas.{within_limits}
 use Rattle.txn_codec.specs.Pieces.{spelled_name}
 use Rattle.txn_codec.specs.OntologyPayload.{count_to, names, tagged, member, tagged_head, some_head, inclusion, inclusions, ontology_payload}
-use Rattle.txn_codec.specs.Spelling.{name_bytes, names_bytes, role_tag, basic_bytes, head_bytes, inclusion_bytes, inclusions_bytes, ontology_bytes}
+use Rattle.txn_codec.specs.Spelling.{name_bytes, names_bytes, role_tag, basic_bytes, inclusion_head_bytes, inclusion_bytes, inclusions_bytes, ontology_bytes}
 use Rattle.txn_codec.proofs.SpelledChanges.{spelled_number}
 
 spelled_count : (most n : ℕ) → n < 65536 → n ≤ most → count_to most (big_bytes 2 n) n
@@ -78,7 +78,7 @@ spelled_basic_head concepts roles t b s = record {
   in_second = head_behind concepts roles s.met s.back b s.in_first.1 s.in_second;
 }
 
-spelled_head : (concepts roles : ℕ) (h : Head) → IsPlacedHead 512 256 h → (some_head concepts roles).loose (head_bytes h) h
+spelled_head : (concepts roles : ℕ) (h : Head) → IsPlacedHead 512 256 h → (some_head concepts roles).loose (inclusion_head_bytes h) h
 spelled_head concepts roles (heads.Basic b) is = spelled_basic_head concepts roles (basic_bytes b) b (spelled_member concepts roles b is)
 spelled_head concepts roles heads.Nothing is = record {
   front = 0 ∷ [];
@@ -96,17 +96,17 @@ spelled_body concepts roles (b ∷ bs) h = (basic_bytes b, flat_map basic_bytes 
 spelled_inclusion : (concepts roles : ℕ) (i : Inclusion) → IsWithin 512 256 i → (inclusion concepts roles).loose (inclusion_bytes i) i
 spelled_inclusion concepts roles i w = record {
   front = length i.body ∷ [];
-  back = flat_map basic_bytes i.body ++ head_bytes i.head;
+  back = flat_map basic_bytes i.body ++ inclusion_head_bytes i.head;
   met = length i.body;
   parts = refl;
   in_first = (refl, w.least, w.most);
   in_second = record {
     front = flat_map basic_bytes i.body;
-    back = head_bytes i.head;
+    back = inclusion_head_bytes i.head;
     met = i.body;
     parts = refl;
     in_first = (spelled_body concepts roles i.body (recursion_from_All (IsPlaced 512 256) i.body w.body), omega arith, omega arith);
-    in_second = record { front = head_bytes i.head; back = []; met = i.head; parts = sym (append-nil (head_bytes i.head)); in_first = spelled_head concepts roles i.head w.head; in_second = (refl, refl) };
+    in_second = record { front = inclusion_head_bytes i.head; back = []; met = i.head; parts = sym (append-nil (inclusion_head_bytes i.head)); in_first = spelled_head concepts roles i.head w.head; in_second = (refl, refl) };
   };
 }
 
@@ -162,12 +162,12 @@ pub body_len : (body : List Basic) → length (flat_map basic_bytes body) ≡ 3 
 body_len [] = refl
 body_len (b ∷ bs) = omega (arith, length-append (basic_bytes b) (flat_map basic_bytes bs), basic_len b, body_len bs)
 
-pub head_len : (h : Head) → length (head_bytes h) ≡ 3
+pub head_len : (h : Head) → length (inclusion_head_bytes h) ≡ 3
 head_len (heads.Basic b) = basic_len b
 head_len heads.Nothing = refl
 
 pub inclusion_len_is : (i : Inclusion) → length (inclusion_bytes i) ≡ 4 + 3 * length i.body
-inclusion_len_is i = omega (arith, length-append (flat_map basic_bytes i.body) (head_bytes i.head), body_len i.body, head_len i.head)
+inclusion_len_is i = omega (arith, length-append (flat_map basic_bytes i.body) (inclusion_head_bytes i.head), body_len i.body, head_len i.head)
 
 pub item_of : (names : List (List ℕ)) (k : ℕ) (name : List ℕ) → slice_get names k ≡ Some name → name ≡ get_or names k name
 item_of [] k name e = absurd (cc)

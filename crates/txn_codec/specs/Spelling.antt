@@ -43,12 +43,12 @@ abbrev pub basic_bytes : Basic → List ℕ
 basic_bytes (basic.Concept c) = 1 ∷ big_bytes 2 c
 basic_bytes (basic.Exists r) = role_tag r.inverse ∷ big_bytes 2 r.name
 
-abbrev pub head_bytes : Head → List ℕ
-head_bytes (heads.Basic b) = basic_bytes b
-head_bytes heads.Nothing = 0 ∷ 0 ∷ 0 ∷ []
+abbrev pub inclusion_head_bytes : Head → List ℕ
+inclusion_head_bytes (heads.Basic b) = basic_bytes b
+inclusion_head_bytes heads.Nothing = 0 ∷ 0 ∷ 0 ∷ []
 
 abbrev pub inclusion_bytes : Inclusion → List ℕ
-inclusion_bytes i = length i.body ∷ (flat_map basic_bytes i.body ++ head_bytes i.head)
+inclusion_bytes i = length i.body ∷ (flat_map basic_bytes i.body ++ inclusion_head_bytes i.head)
 
 abbrev pub inclusions_bytes : List Inclusion → List ℕ
 inclusions_bytes is = big_bytes 2 (length is) ++ flat_map inclusion_bytes is

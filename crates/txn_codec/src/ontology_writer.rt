@@ -6,7 +6,7 @@ ghost use Rattle.byteorder.specs.Endian.{big_bytes};
 ghost use Rattle.dl_base.specs.Names.{IsName};
 ghost use Rattle.dl_base.specs.Ontology.{IsTerminology, IsPlaced, IsPlacedHead, IsWithin};
 ghost use Rattle.txn_codec.specs.OntologyPayload.{ontology_payload};
-ghost use Rattle.txn_codec.specs.Spelling.{names_bytes, basic_bytes, head_bytes, inclusion_bytes, inclusions_bytes, ontology_bytes};
+ghost use Rattle.txn_codec.specs.Spelling.{names_bytes, basic_bytes, inclusion_head_bytes, inclusion_bytes, inclusions_bytes, ontology_bytes};
 ghost use Rattle.txn_codec.specs.Room.{HasRoom, Appends};
 
 use crate::put::{name_len, put, put_name};
@@ -130,8 +130,8 @@ fn put_body(body: &[Basic], out: &mut Vec<u8>)
 
 fn put_head(head: &Head, out: &mut Vec<u8>)
     requires placed { IsPlacedHead 512 256 head.now }
-    requires room { HasRoom out.old (length (head_bytes head.now)) }
-    ensures { Appends out.old out.new (head_bytes head.now) }
+    requires room { HasRoom out.old (length (inclusion_head_bytes head.now)) }
+    ensures { Appends out.old out.new (inclusion_head_bytes head.now) }
 {
     match head {
         Head::Basic(basic) => put_basic(basic, out),
